@@ -1,0 +1,32 @@
+// The ground layer: the words of the trade (methods, marks, limits) and, in specs/, what each of them means.
+// Every other crate states its contracts by the definitions of this crate's specs/.
+
+pub mod refusals;
+
+// The seven methods, in the order in which document 01 names them.
+pub enum Method {
+    Leximin,
+    Adams,
+    Dean,
+    Hill,
+    Webster,
+    Jefferson,
+    Remainders,
+}
+
+// How far a state's departure goes; None where the state has no seat.
+pub enum Mark {
+    In,
+    High,
+    Over,
+    None,
+}
+
+// The limits, each also named in specs/Limits.antt.
+pub const STATE_LIMIT: usize = 250;
+
+pub const HOUSE_LIMIT: u64 = 9_999;
+
+pub const SUM_LIMIT: u64 = 4_294_967_295;
+
+pub const REGISTER_LIMIT: usize = 65_536;
