@@ -1,0 +1,43 @@
+// The layer of wide products: products of two 64-bit numbers compared exactly, where one word cannot hold them.
+ghost use mathlib.Core.Path.{_≡_};
+ghost use Prim.Native.Nat.{_+_, _*_, _^_};
+ghost use lib.Dec.{ltb};
+
+// Half a word: a number is split into two digits of base 2^32.
+const HALF: u64 = 4_294_967_296;
+
+// A number of two words.
+struct Wide {
+    high: u64,
+    low: u64,
+}
+
+// The whole product, by four multiplications of half words. No sum on the way passes a word.
+fn product(a: u64, b: u64) -> Wide
+    ensures { λ r. ⌜ r .high * 2 ^ 64 + r .low ≡ a * b ⌝ }
+{
+    let a_high = a / HALF;
+    let a_low = a % HALF;
+    let b_high = b / HALF;
+    let b_low = b % HALF;
+    let low = a_low * b_low;
+    let left = a_high * b_low + low / HALF;
+    let right = a_low * b_high + left % HALF;
+    Wide {
+        high: a_high * b_high + left / HALF + right / HALF,
+        low: right % HALF * HALF + low % HALF,
+    }
+}
+
+// Is a * b less than c * d? Exactly, for every four numbers: no product is cut to a word.
+pub fn product_less(a: u64, b: u64, c: u64, d: u64) -> bool
+    ensures { λ r. ⌜ r ≡ ltb (a * b) (c * d) ⌝ }
+{
+    let left = product(a, b);
+    let right = product(c, d);
+    if left.high == right.high {
+        left.low < right.low
+    } else {
+        left.high < right.high
+    }
+}
