@@ -1,0 +1,33 @@
+-- The sum of populations as the code adds it up: exact up to the limit and, beyond it, one more than the limit, so that it is
+-- known for any numbers at all.
+-- Assumes nothing.
+use mathlib.Core.Path.{_≡_, refl}
+use mathlib.Core.Bool.{Bool, true, false, cond}
+use mathlib.Core.List.{List}
+use Prim.Native.Nat.{ℕ, _+_, _≤_, _<_}
+use lib.Dec.{leb}
+use borrow.Author.Tests.{le-leb, lt-leb}
+use Rattle.apportionment.specs.Limits.{sumLimit}
+use Rattle.apportionment.specs.Lists.{sum}
+
+unfoldable pub cappedTotal : List ℕ → ℕ
+cappedTotal ps = cond (leb (sum ps) sumLimit) (sum ps) (sumLimit + 1)
+
+-- Within the limit it is the sum.
+pub total-is-sum : (ps : List ℕ) → sum ps ≤ sumLimit → cappedTotal ps ≡ sum ps
+unfolding cappedTotal
+total-is-sum ps h = simp (le-leb (sum ps) sumLimit h)
+
+-- Beyond the limit it is one more than the limit.
+pub total-past-limit : (ps : List ℕ) → sumLimit < sum ps → cappedTotal ps ≡ sumLimit + 1
+unfolding cappedTotal
+total-past-limit ps h = simp (lt-leb (sum ps) sumLimit h)
+
+-- It is within the limit exactly if the sum is.
+pub total-tells : (ps : List ℕ) → leb (cappedTotal ps) sumLimit ≡ leb (sum ps) sumLimit
+unfolding cappedTotal
+total-tells ps = by-test (leb (sum ps) sumLimit) refl
+  where
+    by-test : (t : Bool) → leb (sum ps) sumLimit ≡ t → leb (cond t (sum ps) (sumLimit + 1)) sumLimit ≡ t
+    by-test true e = e
+    by-test false e = refl
