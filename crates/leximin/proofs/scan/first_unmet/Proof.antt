@@ -1,0 +1,86 @@
+-- `leximin::scan::first_unmet` meets its contract: the candidate is the theory's first place of those looked at, with its claim; one place more is one step of that definition.
+-- Assumes nothing.
+use native.Mathlib.Nat.{le-antisymm}
+use mathlib.Core.Path.{refl}
+use borrow.Author.Needs.{needs}
+use Prim.Native.Nat.{_<_, _≤_, _-_}
+use lib.ListN.{length}
+use native.Mathlib.Omega.{arith}
+use Rattle.apportionment.specs.Lists.{firstPlace}
+use Rattle.claims.specs.Order.{wantsBefore, firstUnmet}
+use Rattle.claims.specs.SizeClaims.{sizeTest}
+use Rattle.leximin.specs.Scan.{CandidateIs, better-next}
+use Rattle.leximin.specs.Sizes.{counted, measured}
+use Rattle.leximin.proofs.scan.first_unmet.Statement.{statement}
+use Rattle.leximin.proofs.scan.first_unmet.Tie as tie
+
+abbrev Inv-loop : tie.InvT-loop
+Inv-loop populations seats total house best₀ i₀ best i = (0 < i) × (i ≤ length populations) × CandidateIs populations seats total house (firstPlace (wantsBefore (sizeTest populations house) seats) (i - 1)) best
+
+abbrev μ-loop : tie.MeasureT-loop
+μ-loop populations seats total house best₀ i₀ best i = length populations - i
+
+shared-slice-read-move-of : tie.Need-shared-slice-read-move-of Inv-loop μ-loop
+shared-slice-read-move-of c = search needs
+
+shared-slice-read-move-of-2 : tie.Need-shared-slice-read-move-of-2 Inv-loop μ-loop
+shared-slice-read-move-of-2 c = search needs
+
+move-of-requires : tie.Need-move-of-requires Inv-loop μ-loop
+move-of-requires c κs = measured (counted (c .before .before .before .before .pre .counts) 0) (omega (arith, c .before .before .before .before .pre .seatsFit 0))
+
+loop-holds : tie.Need-loop-holds Inv-loop μ-loop
+unfolding firstPlace
+loop-holds c = (search needs, search needs, record { place = refl; claim = c .move-of .ensures })
+
+mul-move-of : tie.Need-mul-move-of Inv-loop μ-loop
+mul-move-of c = search needs
+
+shared-slice-read-move-of-3 : tie.Need-shared-slice-read-move-of-3 Inv-loop μ-loop
+shared-slice-read-move-of-3 c = search needs
+
+mul-move-of-2 : tie.Need-mul-move-of-2 Inv-loop μ-loop
+mul-move-of-2 c = search needs
+
+shared-slice-read-move-of-4 : tie.Need-shared-slice-read-move-of-4 Inv-loop μ-loop
+shared-slice-read-move-of-4 c = search needs
+
+move-of-requires-2 : tie.Need-move-of-requires-2 Inv-loop μ-loop
+move-of-requires-2 c κs = measured (counted (c .before .before .before .before .before .before .before .before .before .pre .counts) (c .before .before .before .loop .i)) (omega (arith, c .before .before .before .before .before .before .before .before .before .pre .seatsFit (c .before .before .before .loop .i)))
+
+better-requires : tie.Need-better-requires Inv-loop μ-loop
+better-requires c κs = (c .before .before .before .before .loop .inv .2 .claim .small, c .move-of2 .ensures .small)
+
+add-i : tie.Need-add-i Inv-loop μ-loop
+add-i c = omega (arith, c .before .before .before .before .loop-test .taken, c .before .before .before .before .before .before .before .before .before .before .before .good .0 .0)
+
+loop-less : tie.Need-loop-less Inv-loop μ-loop
+loop-less c = search needs
+
+loop-again : tie.Need-loop-again Inv-loop μ-loop
+loop-again c = (omega arith, omega (arith, c .before .before .before .before .loop-test .taken), rw (c .better .ensures) (better-next _ _ _ _ (c .before .before .before .before .before .before .before .before .before .before .before .pre .counts) (c .before .before .before .before .before .loop .i) (c .before .before .before .before .before .loop .inv .0) (c .before .before .before .before .before .loop .inv .2) (c .before .move-of2 .ensures)))
+
+returns : tie.Need-returns Inv-loop μ-loop
+unfolding firstUnmet
+returns c = rw (← le-antisymm (c .before .loop .inv .1) (c .loop-test .left)) (c .before .loop .inv .2 .place)
+
+pub first-unmet-spec : {M : Type 1} → statement M
+first-unmet-spec =
+    tie.close
+    (tie.spec
+    Inv-loop
+    μ-loop
+    shared-slice-read-move-of
+    shared-slice-read-move-of-2
+    move-of-requires
+    loop-holds
+    mul-move-of
+    shared-slice-read-move-of-3
+    mul-move-of-2
+    shared-slice-read-move-of-4
+    move-of-requires-2
+    better-requires
+    add-i
+    loop-less
+    loop-again
+    returns)

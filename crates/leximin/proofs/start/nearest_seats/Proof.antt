@@ -1,0 +1,60 @@
+-- `leximin::start::nearest_seats` meets its contract: each return is a case of the definition, and sizes without their common factor are ordered as the exact ones.
+-- Assumes nothing.
+use mathlib.Core.Path.{sym, _∙_}
+use native.Mathlib.Omega.{arith}
+use native.Mathlib.Nat.{le-trans}
+use borrow.Author.Tests.{eq-eqb, ne-eqb}
+use Rattle.apportionment.specs.Limits.{houseLimit, sumLimit}
+use Rattle.claims.specs.SizeClaims.{nearestRounded}
+use Rattle.leximin.specs.Sizes.{product-fits, whole-at-most-house, measured, size-order-kept}
+use borrow.Author.Needs.{needs}
+use Rattle.leximin.proofs.start.nearest_seats.Statement.{statement}
+use Rattle.leximin.proofs.start.nearest_seats.Tie as tie
+
+mul-whole : tie.Need-mul-whole
+mul-whole c = product-fits sumLimit houseLimit (le-trans (c .pre .people) (c .pre .sumFits)) (c .pre .houseFits) tt
+
+div-whole : tie.Need-div-whole
+div-whole c = search needs
+
+returns : tie.Need-returns
+unfolding nearestRounded
+returns c = simp (eq-eqb _ _ (c .if1 .taken))
+
+add-size-of : tie.Need-add-size-of
+add-size-of c = omega (arith, whole-at-most-house (c .before .pre), c .before .pre .houseFits)
+
+size-of-requires : tie.Need-size-of-requires
+size-of-requires c κs = measured (c .before .pre) (omega (arith, whole-at-most-house (c .before .pre), c .before .pre .houseFits))
+
+size-of-requires-2 : tie.Need-size-of-requires-2
+size-of-requires-2 c κs = measured (c .before .before .pre) (omega (arith, whole-at-most-house (c .before .before .pre), c .before .before .pre .houseFits))
+
+size-less-requires : tie.Need-size-less-requires
+size-less-requires c κs = (c .before .size-of .ensures .small, c .size-of2 .ensures .small)
+
+add-result : tie.Need-add-result
+add-result c = omega (arith, whole-at-most-house (c .before .before .before .before .before .pre), c .before .before .before .before .before .pre .houseFits)
+
+returns-2 : tie.Need-returns-2
+unfolding nearestRounded
+returns-2 c = simp (ne-eqb _ _ (c .before .before .before .before .if1 .left), ← size-order-kept, c .before .before .before .before .before .pre .peopled, ← c .before .before .before .size-of .ensures .is, ← c .before .before .size-of2 .ensures .is, sym (c .before .size-less .ensures) ∙ c .if2 .taken)
+
+returns-3 : tie.Need-returns-3
+unfolding nearestRounded
+returns-3 c = simp (ne-eqb _ _ (c .before .before .before .before .if1 .left), ← size-order-kept, c .before .before .before .before .before .pre .peopled, ← c .before .before .before .size-of .ensures .is, ← c .before .before .size-of2 .ensures .is, sym (c .before .size-less .ensures) ∙ c .if2 .left)
+
+pub nearest-seats-spec : {M : Type 1} → statement M
+nearest-seats-spec =
+    tie.close
+    (tie.spec
+    mul-whole
+    div-whole
+    returns
+    add-size-of
+    size-of-requires
+    size-of-requires-2
+    size-less-requires
+    add-result
+    returns-2
+    returns-3)

@@ -1,0 +1,52 @@
+// The start: each state's nearest seats.
+use crate::sizes::size_less;
+use crate::sizes::size_of;
+ghost use mathlib.Core.Path.{_≡_};
+ghost use lib.ListN.{length};
+ghost use Rattle.claims.specs.SizeClaims.{nearestRounded};
+ghost use Rattle.leximin.specs.Sizes.{Counted};
+ghost use Rattle.leximin.specs.Start.{Ready};
+ghost use Rattle.apportionment.specs.Leximin.{startSeats, startTotal};
+
+// The seats nearest to p H / P: its whole part or one more, at least 1, the fewer where two are equally near.
+pub fn nearest_seats(population: u64, total: u64, house: u64) -> u64
+    requires { ⌜ Counted population total house ⌝ }
+    ensures { λ r. ⌜ r ≡ nearestRounded population total house ⌝ }
+{
+    let whole = population * house / total;
+    if whole == 0 {
+        return 1;
+    }
+    let more = size_of(population, whole + 1, total, house);
+    let fewer = size_of(population, whole, total, house);
+    if size_less(more, fewer) {
+        return whole + 1;
+    }
+    whole
+}
+
+// Fills the seat list with each state's nearest seats.
+pub fn fill_start(populations: &[u64], total: u64, house: u64, seats: &mut [u64])
+    requires { ⌜ Ready (now populations) total house × (length (now seats) ≡ length (now populations)) ⌝ }
+    ensures { λ _. ⌜ now (seats .exit) ≡ startSeats (now (populations .entry)) house ⌝ }
+{
+    let mut i = 0;
+    while i < populations.len() {
+        seats[i] = nearest_seats(populations[i], total, house);
+        i += 1;
+    }
+}
+
+// The starting total L: every state's nearest seats added up.
+pub fn start_total(populations: &[u64], total: u64, house: u64) -> u64
+    requires { ⌜ Ready (now populations) total house ⌝ }
+    ensures { λ r. ⌜ r ≡ startTotal (now (populations .entry)) house ⌝ }
+{
+    let mut sum: u64 = 0;
+    let mut i = 0;
+    while i < populations.len() {
+        sum += nearest_seats(populations[i], total, house);
+        i += 1;
+    }
+    sum
+}
