@@ -1,0 +1,177 @@
+-- Demand 3, whole: one claim about a list of stepping calls of any length, none included, that starts from the placing which an opening
+-- that was not refused handed back; each call gets the placing that the last one handed back, refused or not. It is about the contracts of
+-- opening and stepping themselves, as `Reads` has them, so that a weaker contract of either breaks it.
+-- Assumes nothing.
+use mathlib.Core.Path.{_≡_, refl, sym, _∙_, ap}
+use mathlib.Core.Bool.{Bool, true, false, cond}
+use mathlib.Core.List.{List, [], _∷_}
+use Prim.Native.Nat.{ℕ, zero, suc, _+_, _-_, _<_, _≤_, min}
+use native.Mathlib.Omega.{arith}
+use native.Mathlib.Nat.{not-suc-le-zero, le-of-suc-le-suc, le-antisymm, zero-add}
+use lib.Dec.{ltb, eqb}
+use lib.ListN.{length}
+use borrow.Author.Tests.{ltb-true, ltb-false, eqb-true, eqb-false}
+use contract.Lifetimes.{Lfts}
+use denote.Ref.{now}
+use denote.Triple.Clauses.{AtExit}
+use borrow.Fn.Kinds.{Dens, endedOf}
+use Rattle.apportionment.specs.Refusals.{accepted, houseReached}
+use Rattle.apportionment.specs.Leximin.{leximinFor, startTotal, gap, totalAfter}
+use Rattle.claims.specs.StartBounds.{gap-below-states}
+use Rattle.problem.specs.Opening.{openRefusal}
+use Rattle.problem.specs.Passed.{open-passed}
+use Rattle.leximin.specs.Start.{ready-sound}
+use Rattle.placing.specs.Placing.{padded, placingAt, started, openedOf, steppedOf, refusedWith}
+use Rattle.placing.specs.Telling.{opened-ready}
+use Rattle.placing.specs.Walk.{start-is-first, step-before-house, step-at-house}
+use Rattle.placing.specs.declared.Placing.{Placing}
+use Rattle.placing.specs.declared.Placed.{Placed}
+use Rattle.placing.proofs.Placing.step.Reads as step-reads
+use Rattle.placing.proofs.Placing.open.Reads as open-reads
+use Rattle.placing.proofs.Placing.open.Kinds as open-kinds
+
+-- ---- a list of calls
+
+-- One call of stepping: what its contract says of the placing handed in and of what is handed back.
+abbrev pub Stepped : Placing → Placed → Type 0
+Stepped p r = step-reads.Post tt (p, tt) r (p, tt)
+
+-- Calls of stepping in a row, the first of them on p; the list has what each handed back.
+pub data Calls : Placing → List Placed → Type 0 where
+  none : {p : Placing} → Calls p []
+  call : {p : Placing} {r : Placed} {rs : List Placed} → Stepped p r → Calls (r .placing) rs → Calls p (r ∷ rs)
+
+-- The placing that stands after the calls.
+pub standing : Placing → List Placed → Placing
+standing p [] = p
+standing p (r ∷ rs) = standing (r .placing) rs
+
+-- The refusal of the call with a given number, counted from 0.
+pub refusalAt : List Placed → ℕ → ℕ
+refusalAt [] i = accepted
+refusalAt (r ∷ rs) zero = r .refusal
+refusalAt (r ∷ rs) (suc i) = refusalAt rs i
+
+-- What is claimed of the calls rs and of the placing p that stands after them.
+pub record Claimed (ps : List ℕ) (H : ℕ) (rs : List Placed) (p : Placing) : Type 0 where
+  -- The steps made are m, the smaller of the number of calls and the gap between L and H.
+  pub steps : p .steps ≡ min (length rs) (gap ps H)
+  -- The total is L + m if L is below H, and otherwise L less m.
+  pub total : p .total ≡ cond (ltb (startTotal ps H) H) (startTotal ps H + p .steps) (startTotal ps H - p .steps)
+  -- The seats are the leximin allotment for that total, with 0 past the states.
+  pub seats : p .seats ≡ padded (leximinFor ps H (p .total))
+  -- Populations and house are as opened.
+  pub states : p .states ≡ length ps
+  pub populations : p .populations ≡ padded ps
+  pub house : p .house ≡ H
+  -- A call numbered up to the gap is not refused, and every later one is refused 20; so none is refused 21.
+  pub moves : (i : ℕ) → i < length rs → i < gap ps H → refusalAt rs i ≡ accepted
+  pub stands : (i : ℕ) → i < length rs → gap ps H ≤ i → refusalAt rs i ≡ houseReached
+  -- The gap is less than the number of states.
+  pub near : gap ps H < length ps
+
+-- ---- from a placing after m steps
+
+module _ (ps : List ℕ) (H : ℕ) (opens : openRefusal ps H ≡ accepted) where
+  -- Where calls lead that begin m steps after opening.
+  record Led (m : ℕ) (rs : List Placed) (p : Placing) : Type 0 where
+    is : p ≡ placingAt ps H (min (m + length rs) (gap ps H))
+    moves : (i : ℕ) → i < length rs → m + i < gap ps H → refusalAt rs i ≡ accepted
+    stands : (i : ℕ) → i < length rs → gap ps H ≤ m + i → refusalAt rs i ≡ houseReached
+
+  -- One call more, in front: it is not refused while a step is left.
+  led-by-move : {m : ℕ} {r : Placed} {rs : List Placed} {p : Placing} → m < gap ps H → r .refusal ≡ accepted → Led (suc m) rs p → Led m (r ∷ rs) p
+  unfolding refusalAt
+  led-by-move {m} {r} {rs} {p} left accepts led =
+      record { is = led .is ∙ ap (placingAt ps H) (omega arith); moves = moving; stands = standing-still }
+    where
+      moving : (i : ℕ) → i < length (r ∷ rs) → m + i < gap ps H → refusalAt (r ∷ rs) i ≡ accepted
+      moving zero h l = accepts
+      moving (suc i) h l = led .moves i (le-of-suc-le-suc h) (omega arith)
+
+      standing-still : (i : ℕ) → i < length (r ∷ rs) → gap ps H ≤ m + i → refusalAt (r ∷ rs) i ≡ houseReached
+      standing-still zero h l = absurd (omega (arith, l, left))
+      standing-still (suc i) h l = led .stands i (le-of-suc-le-suc h) (omega arith)
+
+  -- It is refused 20 once the house is reached.
+  led-by-standing : {m : ℕ} {r : Placed} {rs : List Placed} {p : Placing} → m ≡ gap ps H → r .refusal ≡ houseReached → Led m rs p → Led m (r ∷ rs) p
+  unfolding refusalAt
+  led-by-standing {m} {r} {rs} {p} there refuses led =
+      record { is = led .is ∙ ap (placingAt ps H) (omega arith); moves = moving; stands = standing-still }
+    where
+      moving : (i : ℕ) → i < length (r ∷ rs) → m + i < gap ps H → refusalAt (r ∷ rs) i ≡ accepted
+      moving i h l = absurd (omega (arith, l, there))
+
+      standing-still : (i : ℕ) → i < length (r ∷ rs) → gap ps H ≤ m + i → refusalAt (r ∷ rs) i ≡ houseReached
+      standing-still zero h l = refuses
+      standing-still (suc i) h l = led .stands i (le-of-suc-le-suc h) (omega arith)
+
+  -- A call on the placing after m steps: by its contract it moves on or stands still.
+  call-leads : {m : ℕ} {q : Placing} {r : Placed} {rs : List Placed} → m ≤ gap ps H → q ≡ placingAt ps H m → Stepped q r
+      → (suc m ≤ gap ps H → r .placing ≡ placingAt ps H (suc m) → Led (suc m) rs (standing (r .placing) rs))
+      → (r .placing ≡ placingAt ps H m → Led m rs (standing (r .placing) rs)) → Led m (r ∷ rs) (standing (r .placing) rs)
+  unfolding refusedWith
+  call-leads {m} {q} {r} {rs} few e s onward still = by-gap (ltb m (gap ps H)) refl
+    where
+      by-gap : (t : Bool) → ltb m (gap ps H) ≡ t → Led m (r ∷ rs) (standing (r .placing) rs)
+      by-gap true below =
+          let left = ltb-true m (gap ps H) below in
+          let handed : r ≡ record { refusal = accepted; placing = placingAt ps H (suc m) } =
+          s ∙ ap steppedOf e ∙ step-before-house ps H opens m left in
+          led-by-move left (ap (λ (x : Placed). x .refusal) handed) (onward left (ap (λ (x : Placed). x .placing) handed))
+      by-gap false above =
+          let there : m ≡ gap ps H = le-antisymm few (ltb-false m (gap ps H) above) in
+          let handed : r ≡ record { refusal = houseReached; placing = placingAt ps H m } =
+          s ∙ ap steppedOf (e ∙ ap (placingAt ps H) there) ∙ step-at-house ps H opens
+          ∙ ap (λ (k : ℕ). refusedWith houseReached (placingAt ps H k)) (sym there) in
+          led-by-standing there (ap (λ (x : Placed). x .refusal) handed) (still (ap (λ (x : Placed). x .placing) handed))
+
+  calls-lead : {m : ℕ} {q : Placing} {rs : List Placed} → m ≤ gap ps H → q ≡ placingAt ps H m → Calls q rs → Led m rs (standing q rs)
+  unfolding standing
+  calls-lead {m} few e none =
+      record {
+        is = e ∙ ap (placingAt ps H) (omega arith);
+        moves = λ i h. absurd (not-suc-le-zero h);
+        stands = λ i h. absurd (not-suc-le-zero h);
+      }
+  calls-lead few e (call s later) = call-leads few e s (λ few′ e′. calls-lead few′ e′ later) (λ e′. calls-lead few e′ later)
+
+-- ---- the claim
+
+-- An opening that was not refused opens.
+not-refused : (ps : List ℕ) (H : ℕ) (r : Placed) → r ≡ openedOf ps H → r .refusal ≡ accepted
+    → (openRefusal ps H ≡ accepted) × (r .placing ≡ started ps H)
+unfolding openedOf
+not-refused ps H r e accepts = by-refusal (eqb (openRefusal ps H) accepted) refl
+  where
+    by-refusal : (t : Bool) → eqb (openRefusal ps H) accepted ≡ t → (openRefusal ps H ≡ accepted) × (r .placing ≡ started ps H)
+    by-refusal true t =
+        (eqb-true _ _ t, ap (λ (x : Placed). x .placing) (rw t at e))
+    by-refusal false t =
+        let refuses : openRefusal ps H ≡ accepted = sym (ap (λ (x : Placed). x .refusal) (rw t at e)) ∙ accepts in
+        absurd (eqb-false _ _ t refuses)
+
+led-claimed : (ps : List ℕ) (H : ℕ) (opens : openRefusal ps H ≡ accepted) {rs : List Placed} {p : Placing} → Led ps H opens 0 rs p → Claimed ps H rs p
+unfolding placingAt totalAfter
+led-claimed ps H opens {rs} {p} led =
+    let m : ℕ = min (length rs) (gap ps H) in
+    let is : p ≡ placingAt ps H m = led .is ∙ ap (λ (k : ℕ). placingAt ps H (min k (gap ps H))) (zero-add (length rs)) in
+    record {
+      steps = ap (λ (q : Placing). q .steps) is;
+      total = rw is;
+      seats = rw is;
+      states = ap (λ (q : Placing). q .states) is;
+      populations = ap (λ (q : Placing). q .populations) is;
+      house = ap (λ (q : Placing). q .house) is;
+      moves = λ i h l. led .moves i h (rw (zero-add i) l);
+      stands = λ i h l. led .stands i h (rw (zero-add i) l);
+      near = gap-below-states (ready-sound (opened-ready (open-passed ps H opens)));
+    }
+
+-- Demand 3. Opening, by its contract, handed back r without a refusal; stepping, by its contract, handed back rs in a row from there.
+pub demand : (κs : Lfts 1) (a : Dens κs open-kinds.ps) (r : Placed) (s : AtExit (endedOf 1 open-kinds.ps open-kinds.r) κs) → open-reads.Post κs a r s → r .refusal ≡ accepted
+    → (rs : List Placed) → Calls (r .placing) rs → Claimed (now (a .0)) (a .1 .0) rs (standing (r .placing) rs)
+demand κs a r s opened accepts rs calls =
+    let start = not-refused (now (a .0)) (a .1 .0) r opened accepts in
+    led-claimed (now (a .0)) (a .1 .0) (start .0)
+    (calls-lead (now (a .0)) (a .1 .0) (start .0) (omega arith) (start .1 ∙ start-is-first (now (a .0)) (a .1 .0) (start .0)) calls)

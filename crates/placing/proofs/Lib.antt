@@ -1,0 +1,2 @@
+-- Beside the proofs of the functions, the claim about whole lists of calls.
+pub mod Claim

@@ -1,0 +1,127 @@
+-- `placing::genuine::is_genuine` meets its contract: a test that fails is one that no genuine placing fails, and a placing that passes them all is genuine (`Telling`).
+-- Assumes nothing.
+use Rattle.placing.specs.Telling.{same-first, last-test}
+use mathlib.Core.Path.{_≡_, sym, _∙_}
+use mathlib.Core.Bool.{false≢true}
+use native.Mathlib.Omega.{arith}
+use lib.ListN.{length}
+use lib.Seq.{length-take-le}
+use Rattle.apportionment.specs.Limits.{stateLimit}
+use Rattle.placing.specs.Placing.{genuine, peopleOf}
+use Rattle.placing.specs.Telling.{not-genuine, opened-parts}
+use borrow.Author.Needs.{needs}
+use Rattle.placing.proofs.genuine.is_genuine.Statement.{statement}
+use Rattle.placing.proofs.genuine.is_genuine.Tie as tie
+
+-- The arrays of the placing are full.
+full-people : (c : tie.Start) → length (c .args .placing .populations) ≡ stateLimit
+full-people c = search needs
+
+full-seats : (c : tie.Start) → length (c .args .placing .seats) ≡ stateLimit
+full-seats c = search needs
+
+returns : tie.Need-returns
+returns c = sym (not-genuine _ (λ t. omega (arith, t .statesFit, c .if1 .taken)))
+
+array-share-prefix-populations : tie.Need-array-share-prefix-populations
+array-share-prefix-populations c = omega (arith, full-people (c .before .before .before), c .if1 .left)
+
+slice-aggregate-open-refusal : tie.Need-slice-aggregate-open-refusal
+slice-aggregate-open-refusal c = sym (length-take-le _ _ (omega (arith, full-people (c .before .before .before .before), c .before .if1 .left)))
+
+open-refusal-requires : tie.Need-open-refusal-requires
+open-refusal-requires c κs = search needs
+
+returns-2 : tie.Need-returns-2
+unfolding peopleOf
+returns-2 c = sym (not-genuine _ (λ t. c .if2 .taken (c .before .open-refusal .ensures ∙ t .opens)))
+
+array-share-prefix-populations-2 : tie.Need-array-share-prefix-populations-2
+array-share-prefix-populations-2 c = omega (arith, full-people (c .before .before .before .before .before .before), c .before .before .before .if1 .left)
+
+slice-aggregate-total-of : tie.Need-slice-aggregate-total-of
+slice-aggregate-total-of c = sym (length-take-le _ _ (omega (arith, full-people (c .before .before .before .before .before .before .before), c .before .before .before .before .if1 .left)))
+
+total-of-requires : tie.Need-total-of-requires
+total-of-requires c κs = search needs
+
+array-share-prefix-populations-3 : tie.Need-array-share-prefix-populations-3
+array-share-prefix-populations-3 c = omega (arith, full-people (c .before .before .before .before .before .before .before .before), c .before .before .before .before .before .if1 .left)
+
+slice-aggregate-steps-agree : tie.Need-slice-aggregate-steps-agree
+slice-aggregate-steps-agree c = sym (length-take-le _ _ (omega (arith, full-people (c .before .before .before .before .before .before .before .before .before), c .before .before .before .before .before .before .if1 .left)))
+
+steps-agree-requires : tie.Need-steps-agree-requires
+steps-agree-requires c κs = opened-parts (sym (c .before .before .before .before .open-refusal .ensures) ∙ c .before .before .before .if2 .left) (c .before .total-of .ensures)
+
+array-share-prefix-populations-4 : tie.Need-array-share-prefix-populations-4
+array-share-prefix-populations-4 c = omega (arith, full-people (c .before .before .before .before .before .before .before .before .before .before .before), c .before .before .before .before .before .before .before .before .if1 .left)
+
+slice-aggregate-seats-agree : tie.Need-slice-aggregate-seats-agree
+slice-aggregate-seats-agree c = sym (length-take-le _ _ (omega (arith, full-people (c .before .before .before .before .before .before .before .before .before .before .before .before), c .before .before .before .before .before .before .before .before .before .if1 .left)))
+
+array-share-prefix-seats : tie.Need-array-share-prefix-seats
+array-share-prefix-seats c = omega (arith, full-seats (c .before .before .before .before .before .before .before .before .before .before .before .before), c .before .before .before .before .before .before .before .before .before .if1 .left)
+
+slice-aggregate-seats-agree-2 : tie.Need-slice-aggregate-seats-agree-2
+slice-aggregate-seats-agree-2 c = sym (length-take-le _ _ (omega (arith, full-seats (c .before .before .before .before .before .before .before .before .before .before .before .before .before), c .before .before .before .before .before .before .before .before .before .before .if1 .left)))
+
+seats-agree-requires : tie.Need-seats-agree-requires
+seats-agree-requires c κs = (opened-parts (sym (c .before .before .before .before .before .before .before .before .open-refusal .ensures) ∙ c .before .before .before .before .before .before .before .if2 .left) (c .before .before .before .before .before .total-of .ensures), same-first _ _ _ (full-seats (c .before .before .before .before .before .before .before .before .before .before .before .before .before)) (full-people (c .before .before .before .before .before .before .before .before .before .before .before .before .before)) (c .before .before .before .before .before .before .before .before .before .before .if1 .left))
+
+slice-aggregate-zeros-from : tie.Need-slice-aggregate-zeros-from
+slice-aggregate-zeros-from c = search needs
+
+zeros-from-requires : tie.Need-zeros-from-requires
+zeros-from-requires c κs = search needs
+
+slice-aggregate-zeros-from-2 : tie.Need-slice-aggregate-zeros-from-2
+slice-aggregate-zeros-from-2 c = search needs
+
+zeros-from-requires-2 : tie.Need-zeros-from-requires-2
+zeros-from-requires-2 c κs = search needs
+
+returns-3 : tie.Need-returns-3
+unfolding peopleOf
+returns-3 c = c .zeros-from2 .ensures ∙ last-test (c .before .before .before .before .before .before .before .before .before .before .before .before .before .before .before .before .before .before .before .before .args .placing) (full-people (c .before .before .before .before .before .before .before .before .before .before .before .before .before .before .before .before .before .before .before .before)) (full-seats (c .before .before .before .before .before .before .before .before .before .before .before .before .before .before .before .before .before .before .before .before)) (c .before .before .before .before .before .before .before .before .before .before .before .before .before .before .before .before .before .if1 .left) (sym (c .before .before .before .before .before .before .before .before .before .before .before .before .before .before .before .open-refusal .ensures) ∙ c .before .before .before .before .before .before .before .before .before .before .before .before .before .before .if2 .left) (sym (c .before .before .before .before .before .before .before .before .before .before .steps-agree .ensures) ∙ c .before .before .before .before .before .before .before .before .before .if3 .taken) (sym (c .before .before .before .before .before .before .seats-agree .ensures) ∙ c .before .before .before .before .before .if4 .taken) (sym (c .before .before .before .zeros-from .ensures) ∙ c .before .before .if5 .taken)
+
+returns-4 : tie.Need-returns-4
+unfolding peopleOf
+returns-4 c = sym (not-genuine _ (λ t. false≢true (sym (c .if5 .left) ∙ c .before .zeros-from .ensures ∙ t .peopleEnd)))
+
+returns-5 : tie.Need-returns-5
+unfolding peopleOf
+returns-5 c = sym (not-genuine _ (λ t. false≢true (sym (c .if4 .left) ∙ c .before .seats-agree .ensures ∙ t .seats)))
+
+returns-6 : tie.Need-returns-6
+unfolding peopleOf
+returns-6 c = sym (not-genuine _ (λ t. false≢true (sym (c .if3 .left) ∙ c .before .steps-agree .ensures ∙ t .steps)))
+
+pub is-genuine-spec : {M : Type 1} → statement M
+is-genuine-spec =
+    tie.close
+    (tie.spec
+    returns
+    array-share-prefix-populations
+    slice-aggregate-open-refusal
+    open-refusal-requires
+    returns-2
+    array-share-prefix-populations-2
+    slice-aggregate-total-of
+    total-of-requires
+    array-share-prefix-populations-3
+    slice-aggregate-steps-agree
+    steps-agree-requires
+    array-share-prefix-populations-4
+    slice-aggregate-seats-agree
+    array-share-prefix-seats
+    slice-aggregate-seats-agree-2
+    seats-agree-requires
+    slice-aggregate-zeros-from
+    zeros-from-requires
+    slice-aggregate-zeros-from-2
+    zeros-from-requires-2
+    returns-3
+    returns-4
+    returns-5
+    returns-6)

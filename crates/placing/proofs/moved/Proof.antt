@@ -1,0 +1,105 @@
+-- `placing::moved` meets its contract: a genuine placing's seats are those of its total, so the move gives the seats one step later, as `Stepping` has it.
+-- Assumes nothing.
+use mathlib.Core.Path.{_≡_, sym}
+use lib.ListN.{length}
+use lib.Seq.{length-take-le}
+use native.Mathlib.Omega.{arith}
+use Rattle.apportionment.specs.Limits.{stateLimit}
+use Rattle.placing.specs.Placing.{peopleOf}
+use Rattle.placing.specs.Telling.{opened-parts}
+use Rattle.placing.specs.Stepping.{states-fit, steps-fit, seats-ready, placed-next, withdrawn-next}
+use borrow.Author.Needs.{needs}
+use Rattle.placing.proofs.moved.Statement.{statement}
+use Rattle.placing.proofs.moved.Tie as tie
+
+-- The arrays of the placing are full.
+full-people : (c : tie.Start) → length (c .args .placing .populations) ≡ stateLimit
+full-people c = search needs
+
+full-seats : (c : tie.Start) → length (c .args .placing .seats) ≡ stateLimit
+full-seats c = search needs
+
+array-share-prefix-populations : tie.Need-array-share-prefix-populations
+array-share-prefix-populations c = omega (arith, full-people (c .before .before), states-fit _ (c .before .before .pre .0))
+
+slice-aggregate-total-of : tie.Need-slice-aggregate-total-of
+slice-aggregate-total-of c = sym (length-take-le _ _ (omega (arith, full-people (c .before .before .before), states-fit _ (c .before .before .before .pre .0))))
+
+total-of-requires : tie.Need-total-of-requires
+total-of-requires c κs = search needs
+
+array-share-prefix-populations-2 : tie.Need-array-share-prefix-populations-2
+array-share-prefix-populations-2 c = omega (arith, full-people (c .before .before .before .before .before), states-fit _ (c .before .before .before .before .before .pre .0))
+
+slice-aggregate-place : tie.Need-slice-aggregate-place
+slice-aggregate-place c = sym (length-take-le _ _ (omega (arith, full-people (c .before .before .before .before .before .before), states-fit _ (c .before .before .before .before .before .before .pre .0))))
+
+array-borrow-prefix-seats : tie.Need-array-borrow-prefix-seats
+array-borrow-prefix-seats c = omega (arith, full-seats (c .before .before .before .before .before .before), states-fit _ (c .before .before .before .before .before .before .pre .0))
+
+slice-aggregate-place-2 : tie.Need-slice-aggregate-place-2
+slice-aggregate-place-2 c = sym (length-take-le _ _ (omega (arith, full-seats (c .before .before .before .before .before .before .before), states-fit _ (c .before .before .before .before .before .before .before .pre .0))))
+
+place-requires : tie.Need-place-requires
+unfolding peopleOf
+place-requires c κs = seats-ready _ (c .before .before .before .before .before .before .before .pre .0) (opened-parts (c .before .before .before .before .before .before .before .pre .0 .opens) (c .before .before .before .total-of .ensures)) .workable
+
+add-t19 : tie.Need-add-t19
+add-t19 c = search needs
+
+add-t20 : tie.Need-add-t20
+add-t20 c = omega (arith, steps-fit _ (c .before .before .before .before .before .before .before .before .before .pre .0))
+
+returns : tie.Need-returns
+unfolding peopleOf
+returns c = placed-next _ (c .before .before .before .before .before .before .before .before .before .pre .0) (c .before .before .before .before .before .before .before .before .before .pre .1) (c .before .before .before .before .if1 .taken) (c .before .place .ensures)
+
+array-share-prefix-populations-3 : tie.Need-array-share-prefix-populations-3
+array-share-prefix-populations-3 c = omega (arith, full-people (c .before .before .before .before .before), states-fit _ (c .before .before .before .before .before .pre .0))
+
+slice-aggregate-withdraw : tie.Need-slice-aggregate-withdraw
+slice-aggregate-withdraw c = sym (length-take-le _ _ (omega (arith, full-people (c .before .before .before .before .before .before), states-fit _ (c .before .before .before .before .before .before .pre .0))))
+
+array-borrow-prefix-seats-2 : tie.Need-array-borrow-prefix-seats-2
+array-borrow-prefix-seats-2 c = omega (arith, full-seats (c .before .before .before .before .before .before), states-fit _ (c .before .before .before .before .before .before .pre .0))
+
+slice-aggregate-withdraw-2 : tie.Need-slice-aggregate-withdraw-2
+slice-aggregate-withdraw-2 c = sym (length-take-le _ _ (omega (arith, full-seats (c .before .before .before .before .before .before .before), states-fit _ (c .before .before .before .before .before .before .before .pre .0))))
+
+withdraw-requires : tie.Need-withdraw-requires
+unfolding peopleOf
+withdraw-requires c κs = seats-ready _ (c .before .before .before .before .before .before .before .pre .0) (opened-parts (c .before .before .before .before .before .before .before .pre .0 .opens) (c .before .before .before .total-of .ensures))
+
+sub-t28 : tie.Need-sub-t28
+sub-t28 c = search needs
+
+add-t29 : tie.Need-add-t29
+add-t29 c = omega (arith, steps-fit _ (c .before .before .before .before .before .before .before .before .before .pre .0))
+
+returns-2 : tie.Need-returns-2
+unfolding peopleOf
+returns-2 c = withdrawn-next _ (c .before .before .before .before .before .before .before .before .before .pre .0) (c .before .before .before .before .before .before .before .before .before .pre .1) (c .before .before .before .before .if1 .left) (c .before .withdraw .ensures)
+
+pub moved-spec : {M : Type 1} → statement M
+moved-spec =
+    tie.close
+    (tie.spec
+    array-share-prefix-populations
+    slice-aggregate-total-of
+    total-of-requires
+    array-share-prefix-populations-2
+    slice-aggregate-place
+    array-borrow-prefix-seats
+    slice-aggregate-place-2
+    place-requires
+    add-t19
+    add-t20
+    returns
+    array-share-prefix-populations-3
+    slice-aggregate-withdraw
+    array-borrow-prefix-seats-2
+    slice-aggregate-withdraw-2
+    withdraw-requires
+    sub-t28
+    add-t29
+    returns-2)

@@ -1,0 +1,49 @@
+-- `placing::started_placing` meets its contract: the populations and the start's seats are laid over zeros, which is what filling up a list means.
+-- Assumes nothing.
+use mathlib.Core.Path.{refl, sym}
+use lib.Seq.{length-take-le}
+use Rattle.claims.specs.StartSeats.{length-start}
+use Rattle.placing.specs.Placing.{started}
+use Rattle.placing.specs.Lists.{laid-over-zeros}
+use Rattle.placing.specs.Telling.{record-equal}
+use borrow.Author.Needs.{needs}
+use Rattle.placing.proofs.started_placing.Statement.{statement}
+use Rattle.placing.proofs.started_placing.Tie as tie
+
+array-borrow-prefix-people : tie.Need-array-borrow-prefix-people
+array-borrow-prefix-people c = search needs
+
+slice-aggregate-copy-into : tie.Need-slice-aggregate-copy-into
+slice-aggregate-copy-into c = sym (length-take-le _ _ (c .before .before .pre .problem .statesWithin))
+
+copy-into-requires : tie.Need-copy-into-requires
+copy-into-requires c κs = length-take-le _ _ (c .before .before .pre .problem .statesWithin)
+
+array-borrow-prefix-seats : tie.Need-array-borrow-prefix-seats
+array-borrow-prefix-seats c = search needs
+
+slice-aggregate-fill-start : tie.Need-slice-aggregate-fill-start
+slice-aggregate-fill-start c = sym (length-take-le _ _ (c .before .before .before .before .before .pre .problem .statesWithin))
+
+fill-start-requires : tie.Need-fill-start-requires
+fill-start-requires c κs = (c .before .before .before .before .before .pre, length-take-le _ _ (c .before .before .before .before .before .pre .problem .statesWithin))
+
+start-total-requires : tie.Need-start-total-requires
+start-total-requires c κs = search needs
+
+returns : tie.Need-returns
+unfolding started
+returns c = record-equal refl (laid-over-zeros _ _ _ (c .before .before .before .before .before .copy-into .ensures) refl) refl (laid-over-zeros _ _ _ (c .before .before .fill-start .ensures) (length-start _ _)) (c .start-total .ensures) refl
+
+pub started-placing-spec : {M : Type 1} → statement M
+started-placing-spec =
+    tie.close
+    (tie.spec
+    array-borrow-prefix-people
+    slice-aggregate-copy-into
+    copy-into-requires
+    array-borrow-prefix-seats
+    slice-aggregate-fill-start
+    fill-start-requires
+    start-total-requires
+    returns)

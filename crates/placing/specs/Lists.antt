@@ -1,0 +1,124 @@
+-- Tests of the lists that a placing holds, and lists filled up with 0.
+-- Assumes nothing.
+use mathlib.Core.Path.{_≡_, refl, sym, _∙_, ap}
+use mathlib.Core.Bool.{Bool, true, false, false≢true, cond}
+use mathlib.Core.List.{List, [], _∷_, _++_}
+use Prim.Native.Nat.{ℕ, zero, suc, _+_, _-_, _<_, _≤_}
+use native.Mathlib.Omega.{arith}
+use native.Mathlib.Numerals.{add-one}
+use native.Mathlib.Nat.{sub-zero, zero-sub, suc-sub-suc}
+use lib.Dec.{eqb}
+use lib.ListN.{length, getD, take, drop, replicate, take-append-drop, length-drop, length-replicate, length-append, drop-of-length-le}
+use lib.Seq.{drop-cons, length-take-le, take-append-seam, drop-append-seam}
+use borrow.Author.Tests.{eqb-true, eqb-false, eq-eqb, ne-eqb, leb-true, le-leb, lt-leb}
+use Rattle.apportionment.specs.Limits.{stateLimit}
+use Rattle.apportionment.specs.Allotment.{within}
+use Rattle.placing.specs.Placing.{padded}
+
+-- Every number is 0.
+unfoldable pub allZero : List ℕ → Bool
+allZero [] = true
+allZero (x ∷ xs) = cond (eqb x 0) (allZero xs) false
+
+-- Every number is at least 1 and at most the limit.
+unfoldable pub eachWithin : ℕ → List ℕ → Bool
+eachWithin limit [] = true
+eachWithin limit (x ∷ xs) = cond (within limit x) (eachWithin limit xs) false
+
+-- ---- the tests, one place at a time
+
+pub zero-next : (xs : List ℕ) (i : ℕ) → i < length xs → getD xs i 0 ≡ 0 → allZero (drop i xs) ≡ allZero (drop (i + 1) xs)
+unfolding allZero
+zero-next xs i h e = rw (drop-cons xs i 0 h, add-one, eq-eqb _ _ e)
+
+pub nonzero-found : (xs : List ℕ) (i : ℕ) → i < length xs → eqb (getD xs i 0) 0 ≡ false → allZero (drop i xs) ≡ false
+unfolding allZero
+nonzero-found xs i h e = rw (drop-cons xs i 0 h, e)
+
+pub zeros-end : (xs : List ℕ) (i : ℕ) → length xs ≤ i → allZero (drop i xs) ≡ true
+unfolding allZero
+zeros-end xs i h = rw drop-of-length-le
+
+pub within-next : (limit : ℕ) (xs : List ℕ) (i : ℕ) → i < length xs → within limit (getD xs i 0) ≡ true
+    → eachWithin limit (drop i xs) ≡ eachWithin limit (drop (i + 1) xs)
+unfolding eachWithin
+within-next limit xs i h e = rw (drop-cons xs i 0 h, add-one, e)
+
+pub beyond-found : (limit : ℕ) (xs : List ℕ) (i : ℕ) → i < length xs → within limit (getD xs i 0) ≡ false
+    → eachWithin limit (drop i xs) ≡ false
+unfolding eachWithin
+beyond-found limit xs i h e = rw (drop-cons xs i 0 h, e)
+
+pub within-end : (limit : ℕ) (xs : List ℕ) (i : ℕ) → length xs ≤ i → eachWithin limit (drop i xs) ≡ true
+unfolding eachWithin
+within-end limit xs i h = rw drop-of-length-le
+
+-- ---- a number within a limit
+
+pub within-yes : (limit x : ℕ) → (x ≡ 0 → ⊥) → x ≤ limit → within limit x ≡ true
+unfolding within
+within-yes limit x some h = rw (ne-eqb x 0 some, le-leb x limit h)
+
+pub zero-not-within : (limit x : ℕ) → x ≡ 0 → within limit x ≡ false
+unfolding within
+zero-not-within limit x e = rw (eq-eqb x 0 e)
+
+pub beyond-not-within : (limit x : ℕ) → limit < x → within limit x ≡ false
+unfolding within
+beyond-not-within limit x h = rw (ne-eqb x 0 (λ e. omega arith), lt-leb x limit h)
+
+pub within-bounds : (limit x : ℕ) → within limit x ≡ true → (1 ≤ x) × (x ≤ limit)
+unfolding within
+within-bounds limit x e = by-zero (eqb x 0) refl
+  where
+    by-zero : (t : Bool) → eqb x 0 ≡ t → (1 ≤ x) × (x ≤ limit)
+    by-zero true z = absurd (false≢true (rw z at e))
+    by-zero false z = (omega (arith, eqb-false x 0 z), leb-true x limit (rw z at e))
+
+-- ---- lists filled up with 0
+
+all-zero-replicate : (xs : List ℕ) → allZero xs ≡ true → xs ≡ replicate (length xs) 0
+unfolding allZero
+all-zero-replicate [] e = refl
+all-zero-replicate (x ∷ xs) e = by-head (eqb x 0) refl (all-zero-replicate xs)
+  where
+    by-head : (t : Bool) → eqb x 0 ≡ t → (allZero xs ≡ true → xs ≡ replicate (length xs) 0) → x ∷ xs ≡ replicate (length (x ∷ xs)) 0
+    by-head true z rest = ap (λ (y : ℕ). y ∷ xs) (eqb-true x 0 z) ∙ ap (λ (l : List ℕ). 0 ∷ l) (rest (rw z at e))
+    by-head false z rest = absurd (false≢true (rw z at e))
+
+zeros-pass : (n : ℕ) → allZero (replicate n 0) ≡ true
+unfolding allZero
+zeros-pass zero = refl
+zeros-pass (suc n) = zeros-pass n
+
+-- A list of the full length that is 0 from place n on is its first n places filled up.
+pub padded-first : (xs : List ℕ) (n : ℕ) → length xs ≡ stateLimit → n ≤ stateLimit → allZero (drop n xs) ≡ true → xs ≡ padded (take n xs)
+unfolding padded
+padded-first xs n full few e =
+    sym (take-append-drop n xs)
+    ∙ ap (λ (l : List ℕ). take n xs ++ l) (all-zero-replicate (drop n xs) e ∙ ap (λ (k : ℕ). replicate k 0) rest)
+  where
+    rest : length (drop n xs) ≡ stateLimit - length (take n xs)
+    rest = rw (length-drop, length-take-le n xs (rw full few), full)
+
+pub take-padded : (xs : List ℕ) → take (length xs) (padded xs) ≡ xs
+unfolding padded
+take-padded xs = take-append-seam xs _
+
+pub zeros-past-padded : (xs : List ℕ) → allZero (drop (length xs) (padded xs)) ≡ true
+unfolding padded
+zeros-past-padded xs = rw (drop-append-seam xs (replicate (stateLimit - length xs) 0)) (zeros-pass (stateLimit - length xs))
+
+pub length-padded : (xs : List ℕ) → length xs ≤ stateLimit → length (padded xs) ≡ stateLimit
+unfolding padded
+length-padded xs h = rw (length-append, length-replicate) (omega arith)
+
+drop-zeros : (n m : ℕ) → drop {A = ℕ} n (replicate m 0) ≡ replicate (m - n) 0
+drop-zeros zero m = rw (sub-zero m)
+drop-zeros (suc n) zero = rw (zero-sub (suc n))
+drop-zeros (suc n) (suc m) = drop-zeros n m ∙ ap (λ (k : ℕ). replicate k 0) (sym (suc-sub-suc m n))
+
+-- A list laid over the front of a full list of zeros.
+pub laid-over-zeros : (xs ys : List ℕ) (n : ℕ) → ys ≡ xs → length xs ≡ n → ys ++ drop n (replicate stateLimit 0) ≡ padded xs
+unfolding padded
+laid-over-zeros xs ys n e l = rw (e, l) (ap (λ (zs : List ℕ). xs ++ zs) (drop-zeros n stateLimit))
