@@ -1,0 +1,28 @@
+-- `divisor::claim::claim_of` is right because its parts are the signpost and the weight, and the product fits for every method.
+-- Assumes nothing.
+use borrow.Author.Needs.{needs}
+use Rattle.apportionment.specs.Divisor.{claimOf}
+use Rattle.divisor.specs.Claims.{held, claimFor, claim-fits}
+use Rattle.divisor.proofs.claim.claim_of.Statement.{statement}
+use Rattle.divisor.proofs.claim.claim_of.Tie as tie
+
+signpost-of-requires : tie.Need-signpost-of-requires
+signpost-of-requires c κs = search needs
+
+weight-of-requires : tie.Need-weight-of-requires
+weight-of-requires c κs = search needs
+
+mul-under : tie.Need-mul-under
+unfolding held
+mul-under c =
+    let weight-of = c .before .weight-of in
+    let signpost-of = c .before .before .signpost-of in
+    let start = c .before .before .before in
+    rw (weight-of .ensures, signpost-of .ensures) (claim-fits (start .args .method) (start .pre))
+
+returns : tie.Need-returns
+unfolding claimFor claimOf held
+returns c = rw (c .before .weight-of .ensures, c .before .before .signpost-of .ensures)
+
+pub claim-of-spec : {M : Type 1} → statement M
+claim-of-spec = tie.close (tie.spec signpost-of-requires weight-of-requires mul-under returns)

@@ -1,0 +1,43 @@
+-- `divisor::claim::weight_of` is right because Hill alone counts a population by its square.
+-- Assumes nothing.
+use mathlib.Core.Path.{_≡_, refl}
+use mathlib.Core.List.{[], _∷_}
+use Prim.Native.Nat.{ℕ}
+use types.Run.{OneOf, miss}
+use denote.Enum.Declared.{tagOf}
+use borrow.Author.Needs.{needs}
+use Rattle.apportionment.proofs.Method.{the-type}
+use Rattle.apportionment.specs.Limits.{sumLimit}
+use Rattle.apportionment.specs.Divisor.{weightOf}
+use Rattle.apportionment.specs.declared.Method.{Method}
+use Rattle.apportionment.specs.declared.Method.the-variants.{Leximin, Adams, Dean, Hill, Webster, Jefferson, Remainders}
+use Rattle.divisor.specs.Claims.{product-fits}
+use Rattle.divisor.proofs.claim.weight_of.Statement.{statement}
+use Rattle.divisor.proofs.claim.weight_of.Tie as tie
+
+-- Every method but Hill's counts people as they are.
+unsquared : (m : Method) (p : ℕ) → OneOf (0 ∷ 1 ∷ 2 ∷ 4 ∷ 5 ∷ 6 ∷ []) (tagOf the-type m) → p ≡ weightOf m p
+unfolding weightOf
+unsquared Leximin p k = refl
+unsquared Adams p k = refl
+unsquared Dean p k = refl
+unsquared Hill p k = absurd (miss (0 ∷ 1 ∷ 2 ∷ 4 ∷ 5 ∷ 6 ∷ []) 3 tt k)
+unsquared Webster p k = refl
+unsquared Jefferson p k = refl
+unsquared Remainders p k = refl
+
+enum-told : tie.Need-enum-told
+enum-told c = search needs
+
+mul-result : tie.Need-mul-result
+mul-result c = product-fits sumLimit sumLimit (c .before .before .pre) (c .before .before .pre) tt
+
+returns : tie.Need-returns
+unfolding weightOf
+returns c = rw (c .enum-told .given .1)
+
+returns-2 : tie.Need-returns-2
+returns-2 c = unsquared (c .before .args .method) (c .before .args .population) (c .match .keys2)
+
+pub weight-of-spec : {M : Type 1} → statement M
+weight-of-spec = tie.close (tie.spec enum-told mul-result returns returns-2)

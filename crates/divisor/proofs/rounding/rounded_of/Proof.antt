@@ -1,0 +1,69 @@
+-- `divisor::rounding::rounded_of` is right because its test against the average is the definition's, in machine words.
+-- Assumes nothing.
+use mathlib.Core.Path.{sym, _∙_}
+use native.Mathlib.Omega.{arith}
+use native.Mathlib.Nat.{le-trans}
+use borrow.Author.Needs.{needs}
+use Rattle.apportionment.specs.Limits.{sumLimit}
+use Rattle.claims.specs.DivisorClaims.{rounded}
+use Rattle.divisor.specs.Claims.{aimLimit, product-fits}
+use Rattle.divisor.specs.Rounding.{whole-at-most, whole-counted, average-test}
+use Rattle.divisor.proofs.rounding.rounded_of.Statement.{statement}
+use Rattle.divisor.proofs.rounding.rounded_of.Tie as tie
+
+mul-whole : tie.Need-mul-whole
+mul-whole c = product-fits sumLimit aimLimit (le-trans (c .pre .people) (c .pre .sumFits)) (c .pre .aimFits) tt
+
+div-whole : tie.Need-div-whole
+div-whole c = search needs
+
+weight-of-requires : tie.Need-weight-of-requires
+weight-of-requires c κs = search needs
+
+weight-of-requires-2 : tie.Need-weight-of-requires-2
+weight-of-requires-2 c κs = search needs
+
+claim-of-requires : tie.Need-claim-of-requires
+claim-of-requires c κs = whole-counted (c .before .before .pre)
+
+claim-less-requires : tie.Need-claim-less-requires
+claim-less-requires c κs = search needs
+
+returns : tie.Need-returns
+unfolding rounded
+returns c =
+    let weight-of = c .before .before .before .before .weight-of in
+    let weight-of2 = c .before .before .before .weight-of2 in
+    let claim-of = c .before .before .claim-of in
+    let claim-less = c .before .claim-less in
+    let test = average-test _ _ _ _ _ (weight-of .ensures) (weight-of2 .ensures) (claim-of .ensures) in
+    simp (sym test ∙ sym (claim-less .ensures) ∙ c .if1 .taken)
+
+add-result : tie.Need-add-result
+add-result c =
+    let start = c .before .before .before .before .before in
+    omega (arith, whole-at-most (start .pre), start .pre .aimFits)
+
+returns-2 : tie.Need-returns-2
+unfolding rounded
+returns-2 c =
+    let weight-of = c .before .before .before .before .weight-of in
+    let weight-of2 = c .before .before .before .weight-of2 in
+    let claim-of = c .before .before .claim-of in
+    let claim-less = c .before .claim-less in
+    let test = average-test _ _ _ _ _ (weight-of .ensures) (weight-of2 .ensures) (claim-of .ensures) in
+    simp (sym test ∙ sym (claim-less .ensures) ∙ c .if1 .left)
+
+pub rounded-of-spec : {M : Type 1} → statement M
+rounded-of-spec =
+    tie.close
+    (tie.spec
+    mul-whole
+    div-whole
+    weight-of-requires
+    weight-of-requires-2
+    claim-of-requires
+    claim-less-requires
+    returns
+    add-result
+    returns-2)

@@ -1,0 +1,74 @@
+// Claims: the order d(a) / w of a state's next seat as a fraction of two words, and its exact comparison.
+use apportionment::Method;
+ghost use mathlib.Core.Path.{_≡_};
+ghost use Prim.Native.Nat.{_*_, _≤_};
+ghost use lib.Dec.{ltb};
+ghost use Rattle.apportionment.specs.Limits.{sumLimit};
+ghost use Rattle.apportionment.specs.Divisor.{signpost, weightOf};
+ghost use Rattle.divisor.specs.Claims.{held, claimFor, seatLimit, Counted};
+
+// A claim d(a) / w; also a signpost d(a), the claim of a weight of 1.
+pub struct Claim {
+    pub over: u64,
+    pub under: u64,
+}
+
+// The signpost d(a) of a method, Hill's squared.
+fn signpost_of(method: Method, seats: u64) -> Claim
+    requires { ⌜ seats ≤ seatLimit ⌝ }
+    ensures { λ r. ⌜ r ≡ held (signpost method seats) ⌝ }
+{
+    match method {
+        Method::Adams => Claim {
+            over: seats,
+            under: 1,
+        },
+        Method::Dean => Claim {
+            over: 2 * seats * (seats + 1),
+            under: 2 * seats + 1,
+        },
+        Method::Hill => Claim {
+            over: seats * (seats + 1),
+            under: 1,
+        },
+        Method::Webster => Claim {
+            over: 2 * seats + 1,
+            under: 2,
+        },
+        _ => Claim {
+            over: seats + 1,
+            under: 1,
+        },
+    }
+}
+
+// A population as the method's quotient counts it; Hill's squared.
+pub fn weight_of(method: Method, population: u64) -> u64
+    requires { ⌜ population ≤ sumLimit ⌝ }
+    ensures { λ r. ⌜ r ≡ weightOf method population ⌝ }
+{
+    match method {
+        Method::Hill => population * population,
+        _ => population,
+    }
+}
+
+// The claim of a state with so many seats to one more.
+pub fn claim_of(method: Method, population: u64, seats: u64) -> Claim
+    requires { ⌜ Counted population seats ⌝ }
+    ensures { λ r. ⌜ r ≡ claimFor method population seats ⌝ }
+{
+    let signpost = signpost_of(method, seats);
+    let under = weight_of(method, population) * signpost.under;
+    Claim {
+        over: signpost.over,
+        under,
+    }
+}
+
+// s comes before t, exactly: under Hill and Dean the products pass 64 bits.
+pub fn claim_less(s: Claim, t: Claim) -> bool
+    ensures { λ r. ⌜ r ≡ ltb (s .over * t .under) (t .over * s .under) ⌝ }
+{
+    wide::product_less(s.over, t.under, t.over, s.under)
+}

@@ -1,0 +1,50 @@
+// Rounding: every p A / P rounded by the method's own signposts, for a house A near the one asked for.
+use crate::claim::Claim;
+use crate::claim::claim_less;
+use crate::claim::claim_of;
+use crate::claim::weight_of;
+use apportionment::Method;
+ghost use mathlib.Core.Path.{_≡_};
+ghost use Prim.Native.Nat.{_≤_};
+ghost use Rattle.claims.specs.DivisorClaims.{rounded};
+ghost use Rattle.divisor.specs.Claims.{aimLimit};
+ghost use Rattle.divisor.specs.Rounding.{Rounds, States, Filled};
+
+// The seats of one state: the whole part of p A / P, and one more unless the claim there passes the average.
+fn rounded_of(method: Method, population: u64, total: u64, aim: u64) -> u64
+    requires { ⌜ Rounds population total aim ⌝ }
+    ensures { λ r. ⌜ r ≡ rounded method total aim population ⌝ }
+{
+    let whole = population * aim / total;
+    let average = Claim {
+        over: weight_of(method, aim),
+        under: weight_of(method, total),
+    };
+    let claim = claim_of(method, population, whole);
+    if claim_less(average, claim) {
+        return whole;
+    }
+    whole + 1
+}
+
+// Fills in the rounded seats, and hands back how many they are.
+pub fn fill_rounded(
+    method: Method,
+    populations: &[u64],
+    total: u64,
+    aim: u64,
+    seats: &mut [u64],
+) -> u64
+    requires { ⌜ States (now populations) (now seats) total × (aim ≤ aimLimit) ⌝ }
+    ensures { λ r. ⌜ Filled method (now (populations .entry)) aim (now (seats .exit)) r ⌝ }
+{
+    let mut given = 0;
+    let mut i = 0;
+    while i < populations.len() {
+        let own = rounded_of(method, populations[i], total, aim);
+        seats[i] = own;
+        given += own;
+        i += 1;
+    }
+    given
+}
