@@ -1,0 +1,248 @@
+-- Who has a seat that is left, told by a bar instead of by ranks: all who stand above it, and of those who stand at it the first, as
+-- many as there are seats to spare. The code finds the bar by halving, with far fewer comparisons than ranks take.
+-- Assumes nothing.
+use mathlib.Core.Path.{_≡_, refl, sym, _∙_}
+use mathlib.Core.Bool.{Bool, true, false, cond}
+use mathlib.Core.Logic.{_⊎_, inl, inr}
+use mathlib.Core.List.{List}
+use Prim.Native.Nat.{ℕ, zero, suc, _+_, _-_, _^_, _≤_, _<_}
+use native.Mathlib.Omega.{arith}
+use native.Mathlib.Numerals.{add-one}
+use native.Mathlib.Nat.{zero-add, suc-add}
+use lib.Dec.{ltb, leb, eqb}
+use lib.ListN.{length, getD}
+use borrow.Author.Tests.{ltb-true, ltb-false, leb-true, leb-false, lt-ltb, le-ltb, eq-eqb, ne-eqb}
+use Rattle.apportionment.specs.Lists.{sum, countBelow, entry-at-most-sum}
+use Rattle.remainders.specs.Building.{count-none}
+use Rattle.remainders.specs.Standing.{rankIn, extraIn, reaches, count-reached, count-passed-by, rank-in-parts}
+
+-- How many of the first k states reach a standing.
+abbrev pub reaching : (xs : List ℕ) (least k : ℕ) → ℕ
+reaching xs least k = countBelow (reaches xs least) k
+
+-- ---- counts of those who reach a standing
+
+-- One place more is counted, or not.
+abbrev Counted : (xs : List ℕ) (least k : ℕ) → Type 0
+Counted xs least k =
+    ((least ≤ getD xs k 0) × (reaching xs least (k + 1) ≡ 1 + reaching xs least k))
+    ⊎ ((getD xs k 0 < least) × (reaching xs least (k + 1) ≡ reaching xs least k))
+
+counted : (xs : List ℕ) (least k : ℕ) → Counted xs least k
+counted xs least k = by-test (leb least (getD xs k 0)) refl
+  where
+    by-test : (t : Bool) → leb least (getD xs k 0) ≡ t → Counted xs least k
+    by-test true e = inl (leb-true least (getD xs k 0) e, count-reached xs least k (leb-true least (getD xs k 0) e))
+    by-test false e = inr (leb-false least (getD xs k 0) e, count-passed-by xs least k (leb-false least (getD xs k 0) e))
+
+-- From place i on, a lower standing is reached at least as often as a higher one.
+falls-from : (xs : List ℕ) (low high i : ℕ) → low ≤ high → (d : ℕ)
+    → reaching xs high (d + i) + reaching xs low i ≤ reaching xs low (d + i) + reaching xs high i
+falls-from xs low high i h zero = rw zero-add (omega arith)
+falls-from xs low high i h (suc d) =
+    rw (suc-add, ← (add-one (d + i))) (by-place (falls-from xs low high i h d) (counted xs low (d + i)) (counted xs high (d + i)))
+  where
+    by-place : reaching xs high (d + i) + reaching xs low i ≤ reaching xs low (d + i) + reaching xs high i
+        → Counted xs low (d + i)
+        → Counted xs high (d + i)
+        → reaching xs high (d + i + 1) + reaching xs low i ≤ reaching xs low (d + i + 1) + reaching xs high i
+    by-place ih (inl l) (inl r) = omega arith
+    by-place ih (inl l) (inr r) = omega arith
+    by-place ih (inr l) (inl r) = omega arith
+    by-place ih (inr l) (inr r) = omega arith
+
+falls-between : (xs : List ℕ) (low high i n : ℕ) → low ≤ high → i ≤ n
+    → reaching xs high n + reaching xs low i ≤ reaching xs low n + reaching xs high i
+falls-between xs low high i n h l = let all : n - i + i ≡ n = omega arith in rw all at (falls-from xs low high i h (n - i))
+
+falls : (xs : List ℕ) (low high k : ℕ) → low ≤ high → reaching xs high k ≤ reaching xs low k
+falls xs low high k h =
+    omega (arith, falls-between xs low high 0 k h (omega arith), count-none (reaches xs low), count-none (reaches xs high))
+
+pub all-reach-zero : (xs : List ℕ) (k : ℕ) → reaching xs 0 k ≡ k
+all-reach-zero xs zero = count-none (reaches xs 0)
+all-reach-zero xs (suc k) = rw (← (add-one k)) (omega (arith, count-reached xs 0 k (omega arith), all-reach-zero xs k))
+
+-- Where no state stands above `top`, none is counted above it.
+pub none-above : (xs : List ℕ) (top : ℕ) → ((i : ℕ) → i < length xs → getD xs i 0 ≤ top)
+    → (k : ℕ) → k ≤ length xs → reaching xs (top + 1) k ≡ 0
+none-above xs top h zero l = count-none (reaches xs (top + 1))
+none-above xs top h (suc k) l =
+    let low : getD xs k 0 < top + 1 = omega (arith, h k (omega arith)) in
+    rw (← (add-one k)) (omega (arith, count-passed-by xs (top + 1) k low, none-above xs top h k (omega arith)))
+
+-- ---- the bar
+
+-- Above the bar there are no more states than seats left; at it or above, at least as many.
+pub record Bar (xs : List ℕ) (left bar : ℕ) : Type 0 where
+  pub above : reaching xs (bar + 1) (length xs) ≤ left
+  pub enough : left ≤ reaching xs bar (length xs)
+
+-- What is asked of a search for a bar: no more seats are left than there are states, and no state stands above `top`.
+pub record Searchable (xs : List ℕ) (left top : ℕ) : Type 0 where
+  pub few : left ≤ length xs
+  pub topFits : top + 1 < 2 ^ 64
+  pub below : reaching xs (top + 1) (length xs) ≡ 0
+
+-- Going down from where nobody stands, there is a bar.
+bar-below : (xs : List ℕ) (left : ℕ) → left ≤ length xs
+    → (top : ℕ) → reaching xs (top + 1) (length xs) ≤ left → (bar : ℕ) × Bar xs left bar
+bar-below xs left few zero h = (0, record { above = h; enough = omega (arith, all-reach-zero xs (length xs)) })
+bar-below xs left few (suc top) h = by-test (leb (reaching xs (top + 1) (length xs)) left) refl (bar-below xs left few top)
+  where
+    by-test : (t : Bool) → leb (reaching xs (top + 1) (length xs)) left ≡ t
+        → (reaching xs (top + 1) (length xs) ≤ left → (bar : ℕ) × Bar xs left bar)
+        → (bar : ℕ) × Bar xs left bar
+    by-test true e lower = lower (leb-true (reaching xs (top + 1) (length xs)) left e)
+    by-test false e lower = (
+      suc top,
+      record { above = h; enough = rw (← (add-one top)) (omega (arith, leb-false (reaching xs (top + 1) (length xs)) left e)) },
+    )
+
+pub bar-exists : (xs : List ℕ) (left : ℕ) → left ≤ length xs → (bar : ℕ) × Bar xs left bar
+bar-exists xs left few =
+    let none = none-above xs (sum xs) (λ (i : ℕ) (h : i < length xs). entry-at-most-sum xs i) (length xs) (omega arith) in
+    bar-below xs left few (sum xs) (omega arith)
+
+-- ---- serving by the bar
+
+-- The seat beyond its whole part of a state that stands at `own`, with `spare` seats for those at the bar.
+unfoldable pub extraBy : (own bar spare : ℕ) → ℕ
+extraBy own bar spare = cond (ltb bar own) 1 (cond (ltb own bar) 0 (cond (eqb spare 0) 0 1))
+
+-- The seats to spare after it.
+unfoldable pub spareAfter : (own bar spare : ℕ) → ℕ
+spareAfter own bar spare = cond (eqb own bar) (spare - 1) spare
+
+-- The seats to spare once the first k states are served.
+unfoldable pub spareAt : (xs : List ℕ) (bar spare k : ℕ) → ℕ
+spareAt xs bar spare zero = spare
+spareAt xs bar spare (suc k) = spareAfter (getD xs k 0) bar (spareAt xs bar spare k)
+
+pub spare-one-more : (xs : List ℕ) (bar spare k : ℕ) → spareAt xs bar spare (k + 1) ≡ spareAfter (getD xs k 0) bar (spareAt xs bar spare k)
+unfolding spareAt
+spare-one-more xs bar spare k = rw add-one
+
+-- Above, at and below the bar.
+served-above : (own bar spare : ℕ) → bar < own → (extraBy own bar spare ≡ 1) × (spareAfter own bar spare ≡ spare)
+unfolding extraBy spareAfter
+served-above own bar spare h = (simp (lt-ltb bar own h), simp (ne-eqb own bar (λ e. omega arith)))
+
+served-at : (own bar spare : ℕ) → own ≡ bar
+    → (extraBy own bar spare ≡ cond (eqb spare 0) 0 1) × (spareAfter own bar spare ≡ spare - 1)
+unfolding extraBy spareAfter
+served-at own bar spare e = (simp (le-ltb bar own (omega arith), le-ltb own bar (omega arith)), simp (eq-eqb own bar e))
+
+served-below : (own bar spare : ℕ) → own < bar → (extraBy own bar spare ≡ 0) × (spareAfter own bar spare ≡ spare)
+unfolding extraBy spareAfter
+served-below own bar spare h =
+    (simp (le-ltb bar own (omega arith), lt-ltb own bar h), simp (ne-eqb own bar (λ e. omega arith)))
+
+-- The seats to spare are those not taken by the states at the bar.
+pub spare-is : (xs : List ℕ) (bar spare k : ℕ) → spareAt xs bar spare k ≡ spare + reaching xs (bar + 1) k - reaching xs bar k
+unfolding spareAt
+spare-is xs bar spare zero = omega (arith, count-none (reaches xs bar), count-none (reaches xs (bar + 1)))
+spare-is xs bar spare (suc k) = rw (← (add-one k)) (next (counted xs bar k) (counted xs (bar + 1) k) (spare-is xs bar spare k))
+  where
+    next : Counted xs bar k → Counted xs (bar + 1) k
+        → spareAt xs bar spare k ≡ spare + reaching xs (bar + 1) k - reaching xs bar k
+        → spareAfter (getD xs k 0) bar (spareAt xs bar spare k) ≡ spare + reaching xs (bar + 1) (k + 1) - reaching xs bar (k + 1)
+    next (inl l) (inl r) so-far = omega (arith, served-above (getD xs k 0) bar (spareAt xs bar spare k) (omega arith))
+    next (inl l) (inr r) so-far = omega (arith, served-at (getD xs k 0) bar (spareAt xs bar spare k) (omega arith))
+    next (inr l) (inl r) so-far = absurd (omega arith)
+    next (inr l) (inr r) so-far = omega (arith, served-below (getD xs k 0) bar (spareAt xs bar spare k) (omega arith))
+
+-- Each seat that is served is one above the bar or one to spare.
+one-of-spare : (spare : ℕ) → cond (eqb spare 0) 0 1 + (spare - 1) ≡ spare
+one-of-spare zero = refl
+one-of-spare (suc spare) = simp (ne-eqb (suc spare) 0 (λ e. omega arith)) (omega arith)
+
+pub one-more-served : (xs : List ℕ) (bar spare k : ℕ)
+    → extraBy (getD xs k 0) bar spare + spareAfter (getD xs k 0) bar spare + reaching xs (bar + 1) k
+    ≡ reaching xs (bar + 1) (k + 1) + spare
+one-more-served xs bar spare k = by-place (counted xs bar k) (counted xs (bar + 1) k)
+  where
+    by-place : Counted xs bar k → Counted xs (bar + 1) k
+        → extraBy (getD xs k 0) bar spare + spareAfter (getD xs k 0) bar spare + reaching xs (bar + 1) k
+        ≡ reaching xs (bar + 1) (k + 1) + spare
+    by-place (inl l) (inl r) = omega (arith, served-above (getD xs k 0) bar spare (omega arith))
+    by-place (inl l) (inr r) = omega (arith, served-at (getD xs k 0) bar spare (omega arith), one-of-spare spare)
+    by-place (inr l) (inl r) = absurd (omega arith)
+    by-place (inr l) (inr r) = omega (arith, served-below (getD xs k 0) bar spare (omega arith))
+
+pub at-most-one-served : (own bar spare : ℕ) → extraBy own bar spare ≤ 1
+unfolding extraBy
+at-most-one-served own bar spare = by-tests (ltb bar own) (ltb own bar) (eqb spare 0)
+  where
+    by-tests : (t u v : Bool) → cond t 1 (cond u 0 (cond v 0 1)) ≤ 1
+    by-tests true u v = omega arith
+    by-tests false true v = omega arith
+    by-tests false false true = omega arith
+    by-tests false false false = omega arith
+
+-- The seats for those at the bar.
+abbrev pub spareFor : (xs : List ℕ) (left bar : ℕ) → ℕ
+spareFor xs left bar = left - reaching xs (bar + 1) (length xs)
+
+-- ---- the bar serves those whose rank is below the seats left
+
+module _ (xs : List ℕ) (left bar : ℕ) (b : Bar xs left bar) where
+  -- Above the bar a rank is below the seats left, below the bar it is not, and at the bar it counts the earlier ones there.
+  rank-above : (i : ℕ) → i < length xs → bar < getD xs i 0 → rankIn xs i < left
+  rank-above i h high =
+      let own = getD xs i 0 in
+      omega (
+        arith,
+        rank-in-parts xs i h,
+        falls xs (bar + 1) own i (omega arith),
+        falls-between xs (bar + 1) (own + 1) (i + 1) (length xs) (omega arith) (omega arith),
+        count-passed-by xs (own + 1) i (omega arith),
+        count-reached xs (bar + 1) i (omega arith),
+        b .above,
+      )
+
+  rank-below : (i : ℕ) → i < length xs → getD xs i 0 < bar → left ≤ rankIn xs i
+  rank-below i h low =
+      let own = getD xs i 0 in
+      omega (
+        arith,
+        rank-in-parts xs i h,
+        falls xs own (own + 1) i (omega arith),
+        falls xs (own + 1) bar (length xs) (omega arith),
+        b .enough,
+      )
+
+  rank-at : (i : ℕ) → i < length xs → getD xs i 0 ≡ bar
+      → rankIn xs i + reaching xs (bar + 1) i ≡ reaching xs bar i + reaching xs (bar + 1) (length xs)
+  rank-at i h even = rw even at (rank-in-parts xs i h)
+
+  at-bar : (i : ℕ) → i < length xs → getD xs i 0 ≡ bar → extraIn xs left i ≡ cond (eqb (spareAt xs bar (spareFor xs left bar) i) 0) 0 1
+  unfolding extraIn
+  at-bar i h even = by-test (ltb (rankIn xs i) left) refl (rank-at i h even) (spare-is xs bar (spareFor xs left bar) i)
+    where
+      by-test : (t : Bool) → ltb (rankIn xs i) left ≡ t
+          → rankIn xs i + reaching xs (bar + 1) i ≡ reaching xs bar i + reaching xs (bar + 1) (length xs)
+          → spareAt xs bar (spareFor xs left bar) i ≡ (spareFor xs left bar) + reaching xs (bar + 1) i - reaching xs bar i
+          → _≡_ {A = ℕ} (cond t 1 0) (cond (eqb (spareAt xs bar (spareFor xs left bar) i) 0) 0 1)
+      by-test true e place spare =
+          simp (ne-eqb (spareAt xs bar (spareFor xs left bar) i) 0 (λ z. omega (arith, ltb-true (rankIn xs i) left e, b .above)))
+      by-test false e place spare =
+          simp (eq-eqb (spareAt xs bar (spareFor xs left bar) i) 0 (omega (arith, ltb-false (rankIn xs i) left e, b .above)))
+
+  pub served-by-rank : (i : ℕ) → i < length xs → extraBy (getD xs i 0) bar (spareAt xs bar (spareFor xs left bar) i) ≡ extraIn xs left i
+  unfolding extraIn
+  served-by-rank i h = by-place (counted xs bar i) (counted xs (bar + 1) i)
+    where
+      own : ℕ
+      own = getD xs i 0
+
+      spare : ℕ
+      spare = spareAt xs bar (spareFor xs left bar) i
+
+      by-place : Counted xs bar i → Counted xs (bar + 1) i → extraBy own bar spare ≡ extraIn xs left i
+      by-place (inl l) (inl r) =
+          served-above own bar spare (omega arith) .0 ∙ sym (simp (lt-ltb (rankIn xs i) left (rank-above i h (omega arith))))
+      by-place (inl l) (inr r) = served-at own bar spare (omega arith) .0 ∙ sym (at-bar i h (omega arith))
+      by-place (inr l) (inl r) = absurd (omega arith)
+      by-place (inr l) (inr r) =
+          served-below own bar spare (omega arith) .0 ∙ sym (simp (le-ltb (rankIn xs i) left (rank-below i h (omega arith))))
