@@ -1,0 +1,2 @@
+-- What the proofs of allotting share.
+pub mod Cases

@@ -1,0 +1,38 @@
+-- `allot::allot` meets its contract: the refusal picks the case of the definition; without one the checks have passed and the total is the sum.
+-- Assumes nothing.
+use mathlib.Core.Path.{sym, _∙_}
+use Rattle.problem.specs.Passed.{allot-passed}
+use Rattle.problem.specs.Total.{total-is-sum}
+use Rattle.allot.specs.Allot.{refused-untouched, accepted-filled}
+use borrow.Author.Needs.{needs}
+use Rattle.allot.proofs.allot.Statement.{statement}
+use Rattle.allot.proofs.allot.Tie as tie
+
+allot-refusal-requires : tie.Need-allot-refusal-requires
+allot-refusal-requires c κs = search needs
+
+returns : tie.Need-returns
+returns c = refused-untouched (c .before .allot-refusal .ensures) (c .if1 .taken)
+
+total-of-requires : tie.Need-total-of-requires
+total-of-requires c κs = search needs
+
+fill-seats-requires : tie.Need-fill-seats-requires
+fill-seats-requires c κs = (allot-passed _ _ _ _ (sym (c .before .before .before .allot-refusal .ensures) ∙ c .before .before .if1 .left), c .before .total-of .ensures ∙ total-is-sum _ (allot-passed _ _ _ _ (sym (c .before .before .before .allot-refusal .ensures) ∙ c .before .before .if1 .left) .problem .sumWithin))
+
+same-length : tie.Need-same-length
+same-length c = search needs
+
+returns-2 : tie.Need-returns-2
+returns-2 c = accepted-filled (c .before .before .before .before .before .before .allot-refusal .ensures) (c .before .before .before .before .before .if1 .left) (c .before .before .fill-seats .ensures)
+
+pub allot-spec : {M : Type 1} → statement M
+allot-spec =
+    tie.close
+    (tie.spec
+    allot-refusal-requires
+    returns
+    total-of-requires
+    fill-seats-requires
+    same-length
+    returns-2)

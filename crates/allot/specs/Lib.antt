@@ -1,0 +1,2 @@
+-- What allotting hands back.
+pub mod Allot

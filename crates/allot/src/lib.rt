@@ -1,0 +1,50 @@
+// Allotting: the operation that the desk exists for. A method, a house, populations and a lent list for seats go in; the list holds the
+// method's allotment, or is untouched where a refusal is given.
+use apportionment::Method;
+use apportionment::refusals::ACCEPTED;
+use divisor::fill::fill_divisor;
+use leximin::settle::fill_leximin;
+use problem::allot_refusal;
+use problem::total_of;
+use remainders::fill_remainders;
+ghost use mathlib.Core.Path.{_≡_};
+ghost use lib.ListN.{length};
+ghost use Rattle.apportionment.specs.Lists.{sum};
+ghost use Rattle.problem.specs.Passed.{AllotPassed};
+ghost use Rattle.allot.specs.Allot.{Filled, AllotmentIs};
+
+// The number of the refusal, or 0, and the steps from the start to the house under leximin, 0 under the other methods.
+pub struct Allotted {
+    pub refusal: u64,
+    pub steps: u64,
+}
+
+// Fills in the method's seats, once the checks have passed; the answer is the steps.
+fn fill_seats(method: Method, populations: &[u64], total: u64, house: u64, seats: &mut [u64]) -> u64
+    requires { ⌜ AllotPassed method house (now populations) (length (now seats)) × (total ≡ sum (now populations)) ⌝ }
+    ensures { λ r. ⌜ Filled method (now (populations .entry)) house (now (seats .exit)) r ⌝ }
+{
+    if let Method::Leximin = method {
+        return fill_leximin(populations, total, house, seats);
+    }
+    if let Method::Remainders = method {
+        fill_remainders(populations, total, house, seats);
+        return 0;
+    }
+    fill_divisor(method, populations, total, house, seats);
+    0
+}
+
+// Allots a house: refusals 10 to 15 in this order, each given exactly when its check is the first to fail; a refusal leaves the seat list
+// as it was and allots nothing.
+pub fn allot(method: Method, house: u64, populations: &[u64], seats: &mut [u64]) -> Allotted
+    ensures { λ r. ⌜ AllotmentIs method house (now (populations .entry)) (now (seats .entry)) (now (seats .exit)) r ⌝ }
+{
+    let refusal = allot_refusal(method, house, populations, seats.len());
+    if refusal != ACCEPTED {
+        return Allotted { refusal, steps: 0 };
+    }
+    let total = total_of(populations);
+    let steps = fill_seats(method, populations, total, house, seats);
+    Allotted { refusal, steps }
+}
