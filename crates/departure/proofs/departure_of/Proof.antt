@@ -1,0 +1,60 @@
+-- `departure::departure_of` is right because what it does not refuse is within the limits, and there the exact departure is
+-- shown and marked as document 01 has it.
+-- Assumes nothing.
+use mathlib.Core.Path.{_∙_, sym}
+use native.Mathlib.Nat.{pos-of-ne-zero}
+use borrow.Author.Needs.{needs}
+use borrow.Author.Tests.{eq-eqb, ne-eqb}
+use Rattle.departure.specs.Answer.{departureOf, moderate-size, not-refused}
+use Rattle.departure.specs.Exact.{exact-shown, exact-size}
+use Rattle.departure.proofs.Signed.{read-back}
+use Rattle.departure.proofs.departure_of.Statement.{statement}
+use Rattle.departure.proofs.departure_of.Tie as tie
+
+refused-requires : tie.Need-refused-requires
+refused-requires c κs = search needs
+
+returns : tie.Need-returns
+unfolding departureOf
+returns c = simp (sym (c .before .refused .ensures) ∙ c .if1 .taken)
+
+returns-2 : tie.Need-returns-2
+unfolding departureOf
+returns-2 c = simp (sym (c .before .before .refused .ensures) ∙ c .before .if1 .left, eq-eqb _ _ (c .if2 .taken))
+
+of-requires : tie.Need-of-requires
+of-requires c κs = not-refused _ _ _ _ (sym (c .before .before .refused .ensures) ∙ c .before .if1 .left)
+
+hundredths-requires : tie.Need-hundredths-requires
+hundredths-requires c κs =
+    rw (c .of .ensures, exact-size)
+    (moderate-size (of-requires (c .before) κs) (pos-of-ne-zero (c .before .if2 .left)))
+
+mark-requires : tie.Need-mark-requires
+mark-requires c κs = search needs
+
+returns-3 : tie.Need-returns-3
+unfolding departureOf
+returns-3 c =
+    let seated = c .before .before .before in
+    rw (
+      read-back (c .before .hundredths .result) (c .before .hundredths .ok),
+      c .before .hundredths .ensures,
+      c .mark .ensures,
+      c .before .before .of .ensures,
+      exact-shown,
+      exact-size,
+    )
+    (simp (sym (seated .before .before .refused .ensures) ∙ seated .before .if1 .left, ne-eqb _ _ (seated .if2 .left)))
+
+pub departure-of-spec : {M : Type 1} → statement M
+departure-of-spec =
+    tie.close
+    (tie.spec
+    refused-requires
+    returns
+    returns-2
+    of-requires
+    hundredths-requires
+    mark-requires
+    returns-3)

@@ -1,0 +1,4 @@
+-- What an exact departure is, what the departure operation answers, and what is shown at the edges.
+pub mod Exact
+pub mod Answer
+pub mod Edges
