@@ -1,0 +1,71 @@
+// Names of states and words of methods.
+use crate::Named;
+use crate::parts::all_between;
+use crate::parts::same;
+use apportionment::Method;
+ghost use mathlib.Core.Path.{_≡_};
+ghost use Rattle.fields.specs.Grammar.{isName, isMethodField, methodNamed};
+
+const WORD_LIMIT: usize = 32;
+
+const BLANK: u8 = 32;
+
+// Whether a field is a name.
+pub fn is_name(f: &[u8]) -> bool
+    ensures { λ r. ⌜ r ≡ isName (now (f .entry)) ⌝ }
+{
+    if f.len() == 0 {
+        return false;
+    }
+    if WORD_LIMIT < f.len() {
+        return false;
+    }
+    if f[0] == BLANK {
+        return false;
+    }
+    if f[f.len() - 1] == BLANK {
+        return false;
+    }
+    all_between(f, 32, 126)
+}
+
+// Whether a field can be a method's word.
+pub fn is_method_field(f: &[u8]) -> bool
+    ensures { λ r. ⌜ r ≡ isMethodField (now (f .entry)) ⌝ }
+{
+    if f.len() == 0 {
+        return false;
+    }
+    if WORD_LIMIT < f.len() {
+        return false;
+    }
+    all_between(f, 33, 126)
+}
+
+// The method that a field names.
+pub fn method_named(f: &[u8]) -> Named
+    ensures { λ r. ⌜ r ≡ methodNamed (now (f .entry)) ⌝ }
+{
+    if same(f, b"leximin") {
+        return Named::Known(Method::Leximin);
+    }
+    if same(f, b"adams") {
+        return Named::Known(Method::Adams);
+    }
+    if same(f, b"dean") {
+        return Named::Known(Method::Dean);
+    }
+    if same(f, b"hill") {
+        return Named::Known(Method::Hill);
+    }
+    if same(f, b"webster") {
+        return Named::Known(Method::Webster);
+    }
+    if same(f, b"jefferson") {
+        return Named::Known(Method::Jefferson);
+    }
+    if same(f, b"remainders") {
+        return Named::Known(Method::Remainders);
+    }
+    Named::Unknown
+}

@@ -1,0 +1,2 @@
+-- The lines of a register, each with its checks.
+pub mod Lines

@@ -1,0 +1,50 @@
+-- Document 01, "Operations": the name of the state with a given place, counted from 0, and its refusal.
+-- Assumes nothing.
+use mathlib.Core.Path.{_≡_, refl}
+use mathlib.Core.Bool.{cond}
+use mathlib.Core.List.{List, []}
+use Prim.Native.Nat.{ℕ, zero, suc, _-_, _<_, _≤_}
+use native.Mathlib.Numerals.{sub-one}
+use native.Mathlib.Omega.{arith}
+use lib.Dec.{ltb, eqb}
+use Rattle.apportionment.specs.Refusals.{accepted, placeOutOfStates}
+use Rattle.fields.specs.Grammar.{restOf}
+use Rattle.lines.specs.Lines.{nameAt}
+use Rattle.register.specs.Register.{readingOf}
+use Rattle.register.specs.declared.Reading.{Reading}
+use Rattle.register.specs.declared.Refusal.{Refusal}
+
+-- What is left after k lines.
+unfoldable pub linesAfter : (k : ℕ) → List ℕ → List ℕ
+linesAfter zero s = s
+linesAfter (suc k) s = linesAfter k (restOf s)
+
+pub lines-none : (k : ℕ) (s : List ℕ) → k ≤ 0 → linesAfter k s ≡ s
+unfolding linesAfter
+lines-none zero s none = refl
+lines-none (suc k) s none = absurd (omega arith)
+
+pub lines-step : (k : ℕ) (s : List ℕ) → 0 < k → linesAfter k s ≡ linesAfter (k - 1) (restOf s)
+unfolding linesAfter
+lines-step zero s some = absurd (omega arith)
+lines-step (suc k) s some = rw (sub-one (suc k))
+
+-- For a caller that walks the lines: one line more is the rest of what is left.
+pub lines-next : (k : ℕ) (s : List ℕ) → linesAfter (suc k) s ≡ restOf (linesAfter k s)
+unfolding linesAfter
+lines-next zero s = refl
+lines-next (suc k) s = lines-next k (restOf s)
+
+-- Reading's refusal and line, then 40 for a place that is not below n; 0 and 0 where there is a name.
+unfoldable pub nameRefusalIn : Reading → (place : ℕ) → Refusal
+nameRefusalIn r place =
+    cond (eqb (r .refusal) accepted)
+    (cond (ltb place (r .states)) (record { number = accepted; line = 0 }) (record { number = placeOutOfStates; line = 0 }))
+    (record { number = r .refusal; line = r .line })
+
+unfoldable pub nameRefusalOf : List ℕ → (place : ℕ) → Refusal
+nameRefusalOf s place = nameRefusalIn (readingOf s) place
+
+-- The name of the state with a given place: the first field of its line. Nothing where it is refused.
+unfoldable pub nameOf : List ℕ → (place : ℕ) → List ℕ
+nameOf s place = cond (eqb (nameRefusalOf s place .number) accepted) (nameAt (linesAfter place (restOf s))) []

@@ -1,0 +1,102 @@
+-- Document 01, "Operations": reading a register, line by line from the top.
+-- Each definition takes what is left of the bytes.
+-- Assumes nothing.
+use mathlib.Core.Path.{_≡_, refl}
+use mathlib.Core.Bool.{cond}
+use mathlib.Core.List.{List}
+use Prim.Native.Nat.{ℕ, zero, suc, _+_, _<_, _≤_}
+use native.Mathlib.Omega.{arith}
+use borrow.Author.Tests.{eq-eqb, ne-eqb}
+use lib.Dec.{ltb, eqb}
+use lib.ListN.{length, set, replicate}
+use Rattle.apportionment.specs.Limits.{stateLimit, registerLimit}
+use Rattle.apportionment.specs.Refusals.{accepted, registerTooLong, lineIllFormed}
+use Rattle.apportionment.specs.declared.Method.the-variants.{Leximin}
+use Rattle.fields.specs.Grammar.{restOf}
+use Rattle.lines.specs.Lines.{headOf, numberAt, stateRefusal, closingRefusal}
+use Rattle.lines.specs.declared.head.Head.{Head}
+use Rattle.register.specs.declared.Reading.{Reading}
+
+-- No populations yet.
+unfoldable pub noPopulations : List ℕ
+noPopulations = replicate stateLimit 0
+
+-- A register that is refused: but for the number and the line all is 0, and the method is leximin.
+unfoldable pub refused : (refusal line : ℕ) → Reading
+refused refusal line = record {
+  refusal = refusal;
+  line = line;
+  method = Leximin;
+  house = 0;
+  states = 0;
+  total = 0;
+  populations = noPopulations;
+}
+
+-- A register that is read.
+unfoldable pub accepts : Head → (total : ℕ) (populations : List ℕ) → Reading
+accepts head total populations = record {
+  refusal = accepted;
+  line = 0;
+  method = head .method;
+  house = head .house;
+  states = head .states;
+  total = total;
+  populations = populations;
+}
+
+-- Nothing follows the closing line.
+unfoldable pub endOf : Head → (total : ℕ) (populations : List ℕ) → List ℕ → Reading
+endOf head total populations s =
+    cond (eqb (length s) 0) (accepts head total populations) (refused lineIllFormed (head .states + 3))
+
+-- The closing line, and what follows it.
+unfoldable pub closingOf : Head → (total : ℕ) (populations : List ℕ) → List ℕ → Reading
+closingOf head total populations s =
+    let refusal = closingRefusal total s in
+    cond (eqb refusal accepted) (endOf head total populations (restOf s)) (refused refusal (head .states + 2))
+
+-- The lines of the last `left` states and what follows them, after k states whose lines start at `first`, with their sum and
+-- populations so far.
+unfoldable pub statesFrom : Head → (first : List ℕ) (left k sum : ℕ) (populations : List ℕ) → List ℕ → Reading
+statesFrom head first zero k sum populations s = closingOf head sum populations s
+statesFrom head first (suc left) k sum populations s =
+    let refusal = stateRefusal first k sum s in
+    let p = numberAt s in
+    let next = statesFrom head first left (k + 1) (sum + p) (set populations k p) (restOf s) in
+    cond (eqb refusal accepted) next (refused refusal (k + 2))
+
+pub states-none : (head : Head) (first : List ℕ) (left k sum : ℕ) (populations s : List ℕ) → left ≤ 0
+    → statesFrom head first left k sum populations s ≡ closingOf head sum populations s
+unfolding statesFrom
+states-none head first zero k sum populations s none = refl
+states-none head first (suc left) k sum populations s none = absurd (omega arith)
+
+pub states-refused : (head : Head) (first : List ℕ) (left k sum : ℕ) (populations s : List ℕ) → 0 < left
+    → (stateRefusal first k sum s ≡ accepted → ⊥)
+    → statesFrom head first left k sum populations s ≡ refused (stateRefusal first k sum s) (k + 2)
+unfolding statesFrom
+states-refused head first zero k sum populations s some bad = absurd (omega arith)
+states-refused head first (suc left) k sum populations s some bad = rw (ne-eqb (stateRefusal first k sum s) accepted bad)
+
+pub states-passed : (head : Head) (first : List ℕ) (left next k sum : ℕ) (populations s : List ℕ) → left ≡ suc next
+    → stateRefusal first k sum s ≡ accepted
+    → statesFrom head first left k sum populations s
+    ≡ statesFrom head first next (k + 1) (sum + numberAt s) (set populations k (numberAt s)) (restOf s)
+unfolding statesFrom
+states-passed head first left next k sum populations s one good =
+    rw (one, eq-eqb (stateRefusal first k sum s) accepted good)
+
+-- Every line after the head.
+unfoldable pub statesOf : Head → List ℕ → Reading
+statesOf head s = statesFrom head s (head .states) 0 0 noPopulations s
+
+-- The lines from the top.
+unfoldable pub linesOf : List ℕ → Reading
+linesOf s =
+    let head = headOf s in
+    cond (eqb (head .refusal) accepted) (statesOf head (restOf s)) (refused (head .refusal) 1)
+
+-- What reading a register gives.
+unfoldable pub readingOf : List ℕ → Reading
+readingOf s = cond (ltb registerLimit (length s)) (refused registerTooLong 0) (linesOf s)
