@@ -1,0 +1,37 @@
+-- `text::put_hundredths` meets its contract: the text is laid out in the order of the four calls.
+-- Assumes nothing.
+use borrow.Author.Needs.{needs}
+use Rattle.apportionment.specs.Quantities.{hundredthsText}
+use Rattle.text.specs.Writing.{wrote-then}
+use Rattle.text.proofs.put_hundredths.Statement.{statement}
+use Rattle.text.proofs.put_hundredths.Tie as tie
+
+put-decimal-requires : tie.Need-put-decimal-requires
+put-decimal-requires c κs = search needs
+
+put-byte-requires : tie.Need-put-byte-requires
+put-byte-requires c κs = search needs
+
+put-digit-requires : tie.Need-put-digit-requires
+put-digit-requires c κs = search needs
+
+put-digit-requires-2 : tie.Need-put-digit-requires-2
+put-digit-requires-2 c κs = search needs
+
+same-length : tie.Need-same-length
+same-length c = search needs
+
+returns : tie.Need-returns
+unfolding hundredthsText
+returns c = wrote-then (wrote-then (wrote-then (c .before .before .before .before .before .before .before .before .before .before .before .before .before .before .put-decimal .ensures) (c .before .before .before .before .before .before .before .before .before .before .put-byte .ensures)) (c .before .before .before .before .before .before .put-digit .ensures)) (c .before .before .put-digit2 .ensures)
+
+pub put-hundredths-spec : {M : Type 1} → statement M
+put-hundredths-spec =
+    tie.close
+    (tie.spec
+    put-decimal-requires
+    put-byte-requires
+    put-digit-requires
+    put-digit-requires-2
+    same-length
+    returns)

@@ -1,0 +1,47 @@
+-- `text::put_shown` meets its contract: below zero a sign and the size, and otherwise the size alone.
+-- Assumes nothing.
+use mathlib.Core.Path.{ap, _∙_}
+use borrow.Author.Needs.{needs}
+use lib.IntN.{natAbs}
+use mir.Facts.{toZ-ofZ}
+use Rattle.text.specs.Decimal.{shown-below, shown-above}
+use Rattle.text.specs.Writing.{wrote-then}
+use Rattle.text.proofs.put_shown.Statement.{statement}
+use Rattle.text.proofs.put_shown.Tie as tie
+
+size-of-requires : tie.Need-size-of-requires
+size-of-requires c κs = search needs
+
+put-byte-requires : tie.Need-put-byte-requires
+put-byte-requires c κs = search needs
+
+put-hundredths-requires : tie.Need-put-hundredths-requires
+put-hundredths-requires c κs = search needs
+
+same-length : tie.Need-same-length
+same-length c = search needs
+
+returns : tie.Need-returns
+returns c = let size = c .before .before .before .before .before .before .before .before .before .size-of .ensures ∙ ap natAbs (toZ-ofZ (c .before .before .before .before .before .before .before .before .before .before .before .fits .h)) in rw (shown-below (c .before .before .before .before .before .before .before .before .before .before .before .args .h) (rw (toZ-ofZ (c .before .before .before .before .before .before .before .before .before .before .before .fits .h)) at (c .before .before .before .before .before .before .before .before .if1 .taken)), ← size) (wrote-then (c .before .before .before .before .before .before .put-byte .ensures) (c .before .before .put-hundredths .ensures))
+
+put-hundredths-requires-2 : tie.Need-put-hundredths-requires-2
+put-hundredths-requires-2 c κs = search needs
+
+same-length-2 : tie.Need-same-length-2
+same-length-2 c = search needs
+
+returns-2 : tie.Need-returns-2
+returns-2 c = let size = c .before .before .before .before .before .size-of .ensures ∙ ap natAbs (toZ-ofZ (c .before .before .before .before .before .before .before .fits .h)) in rw (shown-above (c .before .before .before .before .before .before .before .args .h) (rw (toZ-ofZ (c .before .before .before .before .before .before .before .fits .h)) at (c .before .before .before .before .if1 .left)), ← size) (c .before .before .put-hundredths2 .ensures)
+
+pub put-shown-spec : {M : Type 1} → statement M
+put-shown-spec =
+    tie.close
+    (tie.spec
+    size-of-requires
+    put-byte-requires
+    put-hundredths-requires
+    same-length
+    returns
+    put-hundredths-requires-2
+    same-length-2
+    returns-2)

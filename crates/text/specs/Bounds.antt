@@ -1,0 +1,67 @@
+-- How long each piece of text can be, crudely: enough to show that a whole listing fits the array in which it is first written.
+-- Assumes nothing.
+use mathlib.Core.Path.{_≡_, refl}
+use mathlib.Core.Bool.{Bool, true, false}
+use Prim.Native.Nat.{ℕ, zero, suc, _+_, _*_, _^_, _<_, _≤_, _/_}
+use native.Mathlib.Omega.{arith}
+use borrow.Author.Tests.{ltb-true, ltb-false}
+use lib.Dec.{ltb}
+use lib.IntN.{ℤ, pos, negsuc, natAbs}
+use lib.ListN.{length, length-append}
+use Rattle.apportionment.specs.Limits.{sumLimit}
+use Rattle.apportionment.specs.Text.{decimal}
+use Rattle.apportionment.specs.Quantities.{hundredthsText, shownText, markText}
+use Rattle.apportionment.specs.declared.Mark.{Mark}
+use Rattle.apportionment.specs.declared.Mark.the-variants.{In, High, Over, None}
+use Rattle.apportionment.specs.declared.Method.{Method}
+use Rattle.apportionment.specs.declared.Method.the-variants.{Leximin, Adams, Dean, Hill, Webster, Jefferson, Remainders}
+use Rattle.text.specs.Words.{methodText}
+use Rattle.text.specs.Decimal.{decimal-one, decimal-more}
+
+-- A number below 10 ^ (k + 1) has at most k + 1 digits.
+pub decimal-length : (k n : ℕ) → n < 10 ^ suc k → length (decimal n) ≤ suc k
+decimal-length zero n bound = rw (decimal-one n (omega arith)) (omega arith)
+decimal-length (suc k) n bound = by-size (ltb n 10) refl (λ large. decimal-length k (n / 10) (omega arith))
+  where
+    by-size : (small : Bool) → ltb n 10 ≡ small → (10 ≤ n → length (decimal (n / 10)) ≤ suc k) → length (decimal n) ≤ suc (suc k)
+    by-size true e tens = rw (decimal-one n (ltb-true n 10 e)) (omega arith)
+    by-size false e tens =
+        let large : 10 ≤ n = ltb-false n 10 e in
+        rw (decimal-more n large, length-append) (omega (arith, tens large))
+
+-- Every u64 has at most 20 digits.
+pub decimal-of-u64 : (n : ℕ) → n < 2 ^ 64 → length (decimal n) ≤ 20
+decimal-of-u64 n bound = decimal-length 19 n (omega arith)
+
+-- A population, or a sum of them, has at most 10 digits.
+pub decimal-of-sum : (n : ℕ) → n ≤ sumLimit → length (decimal n) ≤ 10
+decimal-of-sum n bound = decimal-length 9 n (omega arith)
+
+-- Hundredths have their whole part, a point and two digits.
+pub hundredths-length : (h : ℕ) → length (hundredthsText h) ≡ length (decimal (h / 100)) + 3
+unfolding hundredthsText
+hundredths-length h = simp length-append (omega arith)
+
+-- A shown departure whose size is below 10 ^ (k + 1) per cent.
+pub shown-length : (k : ℕ) (shown : ℤ) → natAbs shown < 100 * 10 ^ suc k → length (shownText shown) ≤ suc k + 4
+unfolding shownText
+shown-length k (pos h) bound = omega (arith, hundredths-length h, decimal-length k (h / 100) (omega arith))
+shown-length k (negsuc h) bound = omega (arith, hundredths-length (h + 1), decimal-length k ((h + 1) / 100) (omega arith))
+
+-- A mark's word, and a method's.
+pub mark-length : (mark : Mark) → length (markText mark) ≤ 4
+unfolding markText
+mark-length In = omega arith
+mark-length High = omega arith
+mark-length Over = omega arith
+mark-length None = omega arith
+
+pub method-length : (method : Method) → length (methodText method) ≤ 10
+unfolding methodText
+method-length Leximin = omega arith
+method-length Adams = omega arith
+method-length Dean = omega arith
+method-length Hill = omega arith
+method-length Webster = omega arith
+method-length Jefferson = omega arith
+method-length Remainders = omega arith

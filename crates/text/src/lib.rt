@@ -1,0 +1,132 @@
+// Writing text into a lent buffer. Each function writes from place `at` on and hands back the place after what it wrote; once something
+// did not fit, that is one past the buffer's length, and every later call leaves it there and the buffer as it is. So a caller writes all
+// that it has and asks once, at the end, whether it fitted. No function reads the place as an index before it is known to be one.
+use apportionment::Mark;
+use apportionment::Method;
+ghost use mathlib.Core.Path.{_≡_};
+ghost use mathlib.Core.List.{_∷_, []};
+ghost use Prim.Native.Nat.{_<_};
+ghost use lib.Dec.{leb};
+ghost use lib.IntN.{natAbs};
+ghost use lib.ListN.{length};
+ghost use Rattle.apportionment.specs.Text.{decimal, digit};
+ghost use Rattle.apportionment.specs.Quantities.{hundredthsText, shownText, markText};
+ghost use Rattle.text.specs.Writing.{Wrote, copiedOut};
+ghost use Rattle.text.specs.Words.{methodText};
+
+// One byte.
+pub fn put_byte(out: &mut [u8], at: usize, byte: u8) -> usize
+    ensures { λ r. ⌜ Wrote (now (out .entry)) at (byte ∷ []) (now (out .exit)) r ⌝ }
+{
+    if at < out.len() {
+        out[at] = byte;
+        return at + 1;
+    }
+    out.len() + 1
+}
+
+// The bytes of a lent part.
+pub fn put_bytes(out: &mut [u8], at: usize, part: &[u8]) -> usize
+    ensures { λ r. ⌜ Wrote (now (out .entry)) at (now (part .entry)) (now (out .exit)) r ⌝ }
+{
+    if at > out.len() {
+        return out.len() + 1;
+    }
+    let mut next = at;
+    let mut i = 0;
+    while i < part.len() {
+        next = put_byte(out, next, part[i]);
+        i += 1;
+    }
+    next
+}
+
+// One digit.
+fn put_digit(out: &mut [u8], at: usize, d: u64) -> usize
+    requires { ⌜ d < 10 ⌝ }
+    ensures { λ r. ⌜ Wrote (now (out .entry)) at (digit d) (now (out .exit)) r ⌝ }
+{
+    put_byte(out, at, 48 + d as u8)
+}
+
+// A number in base ten, without leading zeros.
+pub fn put_decimal(out: &mut [u8], at: usize, n: u64) -> usize
+    ensures { λ r. ⌜ Wrote (now (out .entry)) at (decimal n) (now (out .exit)) r ⌝ }
+{
+    if n < 10 {
+        return put_digit(out, at, n);
+    }
+    let tens = put_decimal(out, at, n / 10);
+    put_digit(out, tens, n % 10)
+}
+
+// Hundredths, with a point and two digits after it.
+pub fn put_hundredths(out: &mut [u8], at: usize, h: u64) -> usize
+    ensures { λ r. ⌜ Wrote (now (out .entry)) at (hundredthsText h) (now (out .exit)) r ⌝ }
+{
+    let whole = put_decimal(out, at, h / 100);
+    let point = put_byte(out, whole, b'.');
+    let tenth = put_digit(out, point, h / 10 % 10);
+    put_digit(out, tenth, h % 10)
+}
+
+// The size of a signed number. The least i64 has no opposite, so that of a negative one is one more than its successor's.
+fn size_of(z: i64) -> u64
+    ensures { λ r. ⌜ r ≡ natAbs z ⌝ }
+{
+    if z < 0 {
+        return (-(z + 1)) as u64 + 1;
+    }
+    z as u64
+}
+
+// A shown departure, in hundredths of a per cent: a minus sign below zero, no plus sign.
+pub fn put_shown(out: &mut [u8], at: usize, h: i64) -> usize
+    ensures { λ r. ⌜ Wrote (now (out .entry)) at (shownText h) (now (out .exit)) r ⌝ }
+{
+    let size = size_of(h);
+    if h < 0 {
+        let sign = put_byte(out, at, b'-');
+        return put_hundredths(out, sign, size);
+    }
+    put_hundredths(out, at, size)
+}
+
+// The word of a mark.
+pub fn put_mark(out: &mut [u8], at: usize, mark: Mark) -> usize
+    ensures { λ r. ⌜ Wrote (now (out .entry)) at (markText mark) (now (out .exit)) r ⌝ }
+{
+    match mark {
+        Mark::In => put_bytes(out, at, b"in"),
+        Mark::High => put_bytes(out, at, b"high"),
+        Mark::Over => put_bytes(out, at, b"over"),
+        Mark::None => put_bytes(out, at, b"none"),
+    }
+}
+
+// The word of a method, as registers and listings spell it.
+pub fn put_method(out: &mut [u8], at: usize, method: Method) -> usize
+    ensures { λ r. ⌜ Wrote (now (out .entry)) at (methodText method) (now (out .exit)) r ⌝ }
+{
+    match method {
+        Method::Leximin => put_bytes(out, at, b"leximin"),
+        Method::Adams => put_bytes(out, at, b"adams"),
+        Method::Dean => put_bytes(out, at, b"dean"),
+        Method::Hill => put_bytes(out, at, b"hill"),
+        Method::Webster => put_bytes(out, at, b"webster"),
+        Method::Jefferson => put_bytes(out, at, b"jefferson"),
+        Method::Remainders => put_bytes(out, at, b"remainders"),
+    }
+}
+
+// A finished text, copied to the front of a lent buffer if it fits; otherwise the buffer keeps every byte. Says which.
+pub fn copy_out(text: &[u8], buffer: &mut [u8]) -> bool
+    ensures fitted { λ r. ⌜ r ≡ leb (length (now (text .entry))) (length (now (buffer .entry))) ⌝ }
+    ensures copied { λ _. ⌜ now (buffer .exit) ≡ copiedOut (now (text .entry)) (now (buffer .entry)) ⌝ }
+{
+    if text.len() <= buffer.len() {
+        put_bytes(buffer, 0, text);
+        return true;
+    }
+    false
+}
