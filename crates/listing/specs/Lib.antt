@@ -1,0 +1,8 @@
+-- The listing of a register, for any bytes: its text, its refusals, and the lent buffer afterwards.
+pub mod Listing
+pub mod Rows
+pub mod Room
+pub mod Seats
+pub mod Listed
+pub mod Printed
+pub mod Example

@@ -1,0 +1,99 @@
+-- What the allotment program prints, told from writing a listing into a page that has room for every one: 31 is never given there.
+-- Assumes nothing.
+use mathlib.Core.Path.{_≡_, refl, sym, ap, _∙_}
+use mathlib.Core.Bool.{Bool, true, false, cond}
+use mathlib.Core.List.{List, _++_}
+use Prim.Native.Nat.{ℕ, _+_, _^_, _<_, _≤_}
+use native.Mathlib.Nat.{le-refl}
+use native.Mathlib.Omega.{arith}
+use borrow.Author.Tests.{eq-eqb, ne-eqb, eqb-true, eqb-false, leb-true, le-leb}
+use lib.Dec.{leb, eqb}
+use lib.ListN.{length, drop, length-append}
+use lib.Seq.{take-at}
+use Rattle.apportionment.specs.Refusals.{accepted, bufferTooShort}
+use Rattle.text.specs.Bounds.{decimal-of-u64}
+use Rattle.text.specs.Writing.{Wrote, AtFront, wrote-front}
+use Rattle.register.specs.Register.{readingOf}
+use Rattle.listing.specs.declared.Listed.{Listed}
+use Rattle.listing.specs.Listing.{numbersText, listingOf, refused, allotRefusalIn, fittedOf, listedIn, listedOf, bufferAfter, ListingIs, refusalLine, printedOf}
+use Rattle.listing.specs.Room.{listingRoom, numbers-length}
+use Rattle.listing.specs.Listed.{listing-fits}
+
+-- ---- a page with room for every listing
+
+fits-exactly : (listing : List ℕ) (room : ℕ) → length listing ≤ room → fittedOf listing room ≡ fittedOf listing (length listing)
+unfolding fittedOf
+fits-exactly listing room fits = rw (le-leb _ _ fits, le-leb _ _ (le-refl (length listing)))
+
+-- It says the same as one that the listing just fits.
+same-answer : (s : List ℕ) (room : ℕ) → listingRoom ≤ room → listedOf s room ≡ listedOf s (length (listingOf s))
+unfolding listedOf listedIn
+same-answer s room enough =
+    by-tests (eqb (readingOf s .refusal) accepted) (eqb (allotRefusalIn (readingOf s)) accepted) refl refl
+  where
+    by-tests : (t u : Bool) → eqb (readingOf s .refusal) accepted ≡ t → eqb (allotRefusalIn (readingOf s)) accepted ≡ u
+        → cond t (cond u (fittedOf (listingOf s) room) (refused (allotRefusalIn (readingOf s)) 0)) (refused (readingOf s .refusal) (readingOf s .line))
+        ≡ cond t (cond u (fittedOf (listingOf s) (length (listingOf s))) (refused (allotRefusalIn (readingOf s)) 0)) (refused (readingOf s .refusal) (readingOf s .line))
+    by-tests true true good allotted = fits-exactly (listingOf s) room (omega (arith, listing-fits s (eqb-true _ _ good) (eqb-true _ _ allotted)))
+    by-tests true false good refusal = refl
+    by-tests false u bad refusal = refl
+
+-- Where it says no refusal, it has the listing's length.
+whole-size : (s : List ℕ) (room : ℕ) → listedOf s room .refusal ≡ accepted
+    → (listedOf s room .size ≡ length (listingOf s)) × (length (listingOf s) ≤ room)
+unfolding listedOf listedIn fittedOf refused
+whole-size s room =
+    by-tests
+    (eqb (readingOf s .refusal) accepted)
+    (eqb (allotRefusalIn (readingOf s)) accepted)
+    (leb (length (listingOf s)) room)
+    refl
+    refl
+    refl
+  where
+    by-tests : (t u v : Bool) → eqb (readingOf s .refusal) accepted ≡ t → eqb (allotRefusalIn (readingOf s)) accepted ≡ u
+        → leb (length (listingOf s)) room ≡ v
+        → (cond t (cond u (cond v (record { refusal = accepted; line = 0; size = length (listingOf s) }) (refused bufferTooShort 0))
+        (refused (allotRefusalIn (readingOf s)) 0)) (refused (readingOf s .refusal) (readingOf s .line))) .refusal ≡ accepted
+        → ((cond t (cond u (cond v (record { refusal = accepted; line = 0; size = length (listingOf s) }) (refused bufferTooShort 0))
+        (refused (allotRefusalIn (readingOf s)) 0)) (refused (readingOf s .refusal) (readingOf s .line))) .size ≡ length (listingOf s))
+        × (length (listingOf s) ≤ room)
+    by-tests true true true good allotted fits none = (refl, leb-true _ _ fits)
+    by-tests true true false good allotted longer none = absurd (omega arith)
+    by-tests true false v good refusal fits none = absurd (eqb-false _ _ refusal none)
+    by-tests false u v bad refusal fits none = absurd (eqb-false _ _ bad none)
+
+-- ---- what is printed
+
+refusal-length : (n l : ℕ) → n < 2 ^ 64 → l < 2 ^ 64 → length (refusalLine n l) ≤ 50
+unfolding refusalLine
+refusal-length n l few small =
+    simp length-append (omega (arith, numbers-length n l (decimal-of-u64 n few) (decimal-of-u64 l small)))
+
+module _ {s before : List ℕ} {r : Listed} {after : List ℕ} (is : ListingIs s before r after) (room : listingRoom ≤ length before) where
+  said : r ≡ listedOf s (length (listingOf s))
+  said = is .answer ∙ same-answer s (length before) room
+
+  -- The listing, which stands at the front of the page.
+  pub listing-printed : r .refusal ≡ accepted → AtFront (printedOf s) after (r .size)
+  unfolding printedOf bufferAfter
+  listing-printed none =
+      let whole = whole-size s (length before) (rw (is .answer) at none) in
+      let size : r .size ≡ length (listingOf s) = ap (λ (x : Listed). x .size) (is .answer) ∙ whole .0 in
+      let page : after ≡ listingOf s ++ drop (length (listingOf s)) before
+      = is .buffer ∙ rw (eq-eqb _ _ (rw (is .answer) at none)) in
+      rw (eq-eqb _ _ (rw said at none), size, page)
+      (record {
+        within = rw length-append (omega arith);
+        size = refl;
+        bytes = take-at (listingOf s) (drop (length (listingOf s)) before) (length (listingOf s)) refl;
+      })
+
+  -- A refusal's line, once it is written there.
+  pub refusal-printed : (r .refusal ≡ accepted → ⊥) → r .refusal < 2 ^ 64 → r .line < 2 ^ 64
+      → {last : List ℕ} {end : ℕ} → listingRoom ≤ length after → Wrote after 0 (refusalLine (r .refusal) (r .line)) last end
+      → AtFront (printedOf s) last end
+  unfolding printedOf
+  refusal-printed some number line {last} {end} wide wrote =
+      rw (ne-eqb _ _ (λ none. some (ap (λ (x : Listed). x .refusal) said ∙ none)), ← said)
+      (wrote-front wrote (omega (arith, refusal-length (r .refusal) (r .line) number line)))

@@ -1,0 +1,48 @@
+-- The lines of the states, told from what is left of the register after its head: each line's first field is the state's name, so that one
+-- walk down the lines lists every state.
+-- Assumes nothing.
+use mathlib.Core.Path.{_≡_, refl}
+use mathlib.Core.List.{List, _++_}
+use Prim.Native.Nat.{ℕ, zero, suc, _+_, _<_, _≤_}
+use native.Mathlib.Numerals.{add-one}
+use native.Mathlib.Omega.{arith}
+use lib.ListN.{length, getD}
+use Rattle.apportionment.specs.Refusals.{accepted}
+use Rattle.fields.specs.Grammar.{restOf}
+use Rattle.lines.specs.Lines.{nameAt}
+use Rattle.register.specs.Register.{readingOf}
+use Rattle.register.specs.Names.{linesAfter, nameOf}
+use Rattle.register.specs.Sound.{name-there}
+use Rattle.departure.specs.Answer.{InLimits}
+use Rattle.listing.specs.Listing.{stateLine, stateLines, populationsIn, seatsIn, listingIn, listingOf}
+
+-- The name of state i, of those whose lines start here.
+abbrev pub namesFrom : (rows : List ℕ) → ℕ → List ℕ
+namesFrom rows i = nameAt (linesAfter i rows)
+
+-- A seat count for each population, and no departure that is refused.
+pub record Rows (ps seats : List ℕ) (P H : ℕ) : Type 0 where
+  pub paired : length seats ≡ length ps
+  pub each : (i : ℕ) → i < length ps → InLimits (getD ps i 0) (getD seats i 0) P H
+
+-- One state more.
+pub state-lines-more : (name : ℕ → List ℕ) (ps seats : List ℕ) (P H k : ℕ)
+    → stateLines name ps seats P H (k + 1) ≡ stateLines name ps seats P H k ++ stateLine (name k) (getD ps k 0) (getD seats k 0) P H
+unfolding stateLines
+state-lines-more name ps seats P H k = rw add-one
+
+-- The same names give the same lines.
+same-names : (f g : ℕ → List ℕ) (ps seats : List ℕ) (P H k : ℕ) → ((i : ℕ) → i < k → f i ≡ g i)
+    → stateLines f ps seats P H k ≡ stateLines g ps seats P H k
+unfolding stateLines
+same-names f g ps seats P H zero same = refl
+same-names f g ps seats P H (suc k) same =
+    rw (same-names f g ps seats P H k (λ i below. same i (omega arith)), same k (omega arith))
+
+-- The listing of a register that is read, by the lines after its head.
+pub listing-by-rows : (s : List ℕ) → readingOf s .refusal ≡ accepted
+    → listingOf s ≡ listingIn (readingOf s) (namesFrom (restOf s)) (seatsIn (readingOf s))
+unfolding listingOf listingIn
+listing-by-rows s good =
+    let r = readingOf s in
+    rw (same-names (nameOf s) (namesFrom (restOf s)) (populationsIn r) (seatsIn r) (r .total) (r .house) (r .states) (λ i below. name-there s i good below))

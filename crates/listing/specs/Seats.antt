@@ -1,0 +1,61 @@
+-- The seats of an allotment add up to the house, whichever the method: so no state has more than the house, and every departure that a
+-- listing shows is within its limits.
+-- Assumes nothing.
+use mathlib.Core.Path.{_≡_, refl, _∙_}
+use mathlib.Core.List.{List}
+use Prim.Native.Nat.{ℕ, _<_, _≤_}
+use native.Mathlib.Nat.{le-refl}
+use lib.ListN.{length, getD}
+use Rattle.apportionment.specs.Lists.{sum}
+use Rattle.apportionment.specs.Leximin.{leximinFor, gap}
+use Rattle.apportionment.specs.Divisor.{weightOf, divisorSeats}
+use Rattle.apportionment.specs.Remainders.{remainderSeats, remainderSeatsAt}
+use Rattle.apportionment.specs.Allotment.{seatsEveryState, seatsOf}
+use Rattle.apportionment.specs.declared.Method.{Method}
+use Rattle.apportionment.specs.declared.Method.the-variants.{Leximin, Adams, Dean, Hill, Webster, Jefferson, Remainders}
+use Rattle.claims.specs.StandingMoves.{length-listOf}
+use Rattle.claims.specs.DivisorRounding.{signposts-increase, weight-positive}
+use Rattle.claims.specs.DivisorSeats.{claims-met-standing, claims-met-sum}
+use Rattle.claims.specs.SizeClaims.{Sound}
+use Rattle.claims.specs.LeximinSteps.{moved-standing, moved-total, last-step-leximin, total-at-gap}
+use Rattle.problem.specs.Passed.{Passed, AllotPassed}
+use Rattle.remainders.specs.House.{seats-sum-to-house}
+
+-- So many seats for so many states.
+pub record Shared (n H : ℕ) (seats : List ℕ) : Type 0 where
+  pub states : length seats ≡ n
+  pub whole : sum seats ≡ H
+
+leximin-shared : (ps : List ℕ) (H : ℕ) → Passed ps H → length ps ≤ H → Shared (length ps) H (leximinFor ps H H)
+leximin-shared ps H ok fits =
+    let sound : Sound ps H = record { someState = ok .someState; someSeat = ok .someSeat; peopled = ok .peopled } in
+    let all : gap ps H ≤ gap ps H = le-refl (gap ps H) in
+    rw (← last-step-leximin sound fits)
+    (record {
+      states = moved-standing sound fits (gap ps H) all .states;
+      whole = moved-total sound fits (gap ps H) all ∙ total-at-gap ps H;
+    })
+
+divisor-shared : (m : Method) (ps : List ℕ) (H : ℕ) → Passed ps H → Shared (length ps) H (divisorSeats m ps H)
+unfolding divisorSeats
+divisor-shared m ps H ok =
+    let weighs : (i : ℕ) → i < length ps → 0 < weightOf m (getD ps i 0) = λ i below. weight-positive m (getD ps i 0) (ok .peopled i below) in
+    record {
+      states = claims-met-standing (signposts-increase m) weighs (ok .someState) H .states;
+      whole = claims-met-sum (signposts-increase m) weighs (ok .someState) H;
+    }
+
+remainders-shared : (ps : List ℕ) (H : ℕ) → Passed ps H → Shared (length ps) H (remainderSeats ps H)
+unfolding remainderSeats
+remainders-shared ps H ok =
+    record { states = length-listOf (remainderSeatsAt ps H) (length ps); whole = seats-sum-to-house ps H ok }
+
+pub allotment-shared : (m : Method) (H : ℕ) (ps : List ℕ) (room : ℕ) → AllotPassed m H ps room → Shared (length ps) H (seatsOf m ps H)
+unfolding seatsOf seatsEveryState
+allotment-shared Leximin H ps room ok = leximin-shared ps H (ok .problem) (ok .seatForEach refl)
+allotment-shared Adams H ps room ok = divisor-shared Adams ps H (ok .problem)
+allotment-shared Dean H ps room ok = divisor-shared Dean ps H (ok .problem)
+allotment-shared Hill H ps room ok = divisor-shared Hill ps H (ok .problem)
+allotment-shared Webster H ps room ok = divisor-shared Webster ps H (ok .problem)
+allotment-shared Jefferson H ps room ok = divisor-shared Jefferson ps H (ok .problem)
+allotment-shared Remainders H ps room ok = remainders-shared ps H (ok .problem)

@@ -1,0 +1,112 @@
+// The listing of a register: its allotment, line by line, as document 01 lays it out.
+mod rows;
+
+use apportionment::STATE_LIMIT;
+use apportionment::refusals;
+use fields::cut;
+use register::Reading;
+ghost use mathlib.Core.Path.{_≡_};
+ghost use lib.ListN.{length};
+ghost use Rattle.text.specs.Writing.{Wrote, AtFront};
+ghost use Rattle.listing.specs.Listing.{listingIn, refused, ListingIs, printedOf};
+ghost use Rattle.listing.specs.Rows.{namesFrom};
+ghost use Rattle.listing.specs.Room.{AllListable};
+ghost use Rattle.listing.specs.Listed.{GoodReading, HandedOver};
+
+// Room for every listing there is; a listing is written there first, so that a buffer that is too short stays as it is.
+pub const LISTING_ROOM: usize = 32_768;
+
+// What writing a listing answers: a refusal's number and line, or 0, 0 and the listing's length.
+pub struct Listed {
+    pub refusal: u64,
+    pub line: u64,
+    pub size: usize,
+}
+
+fn refused(refusal: u64, line: u64) -> Listed
+    ensures { λ r. ⌜ r ≡ refused refusal line ⌝ }
+{
+    Listed {
+        refusal,
+        line,
+        size: 0,
+    }
+}
+
+// The whole listing of what was read. The states' lines in the register start at `rows`.
+fn put_listing(out: &mut [u8], reading: Reading, rows: &[u8], seats: &[u64]) -> usize
+    requires { ⌜ AllListable reading (namesFrom (now rows)) (now seats) ⌝ }
+    ensures { λ r. ⌜ Wrote (now (out .entry)) 0 (listingIn reading (namesFrom (now (rows .entry))) (now (seats .entry))) (now (out .exit)) r ⌝ }
+{
+    let n = reading.states;
+    let method = reading.method;
+    let populations = reading.populations;
+    let head = rows::put_head(out, 0, method, reading.house, n as u64);
+    let states = rows::put_states(
+        out,
+        head,
+        rows,
+        &populations[..n],
+        seats,
+        reading.total,
+        reading.house,
+    );
+    rows::put_total(out, states, reading.total, problem::total_of(seats))
+}
+
+// Hands the listing of what was read over to the buffer, if it fits.
+fn hand_over(reading: Reading, rows: &[u8], seats: &[u64], out: &mut [u8]) -> Listed
+    requires { ⌜ AllListable reading (namesFrom (now rows)) (now seats) ⌝ }
+    ensures { λ r. ⌜ HandedOver (listingIn reading (namesFrom (now (rows .entry))) (now (seats .entry))) (now (out .entry)) r (now (out .exit)) ⌝ }
+{
+    let mut page = [0u8; LISTING_ROOM];
+    let size = put_listing(&mut page[..], reading, rows, seats);
+    if text::copy_out(&page[..size], out) {
+        return Listed {
+            refusal: refusals::ACCEPTED,
+            line: 0,
+            size,
+        };
+    }
+    refused(refusals::BUFFER_TOO_SHORT, 0)
+}
+
+// Allots what was read and lists it. The seats go into a lent list, which has a place for each state.
+fn list_states(register: &[u8], reading: Reading, seats: &mut [u64], out: &mut [u8]) -> Listed
+    requires { ⌜ GoodReading (now register) reading × (length (now seats) ≡ reading .states) ⌝ }
+    ensures { λ r. ⌜ ListingIs (now (register .entry)) (now (out .entry)) r (now (out .exit)) ⌝ }
+{
+    let n = reading.states;
+    let method = reading.method;
+    let populations = reading.populations;
+    let allotted = allot::allot(method, reading.house, &populations[..n], seats);
+    if allotted.refusal != refusals::ACCEPTED {
+        return refused(allotted.refusal, 0);
+    }
+    hand_over(reading, cut::rest(register), &seats[..], out)
+}
+
+// Writes the listing of a register into the buffer: reading's refusals, allotting's, then 31 exactly if the listing is longer than the
+// buffer. Refused, the buffer keeps every byte; otherwise it keeps those after the listing.
+pub fn write_listing(register: &[u8], out: &mut [u8]) -> Listed
+    ensures { λ r. ⌜ ListingIs (now (register .entry)) (now (out .entry)) r (now (out .exit)) ⌝ }
+{
+    let reading = register::read(register);
+    if reading.refusal != refusals::ACCEPTED {
+        return refused(reading.refusal, reading.line);
+    }
+    let n = reading.states;
+    let mut seats = [0u64; STATE_LIMIT];
+    list_states(register, reading, &mut seats[..n], out)
+}
+
+// What the allotment program prints: the listing, or a refusal's one line.
+pub fn print(register: &[u8], page: &mut [u8; LISTING_ROOM]) -> usize
+    ensures { λ r. ⌜ AtFront (printedOf (now (register .entry))) (now (page .exit)) r ⌝ }
+{
+    let listed = write_listing(register, &mut page[..]);
+    if listed.refusal == refusals::ACCEPTED {
+        return listed.size;
+    }
+    rows::put_refusal(&mut page[..], 0, listed.refusal, listed.line)
+}

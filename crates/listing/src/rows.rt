@@ -1,0 +1,125 @@
+// The lines of a listing, each written from a place on; see crate `text` for what that place is.
+use apportionment::Method;
+use departure::Departure;
+use fields::cut;
+use lines::pairs;
+ghost use mathlib.Core.Path.{_≡_};
+ghost use mathlib.Core.List.{[]};
+ghost use Prim.Native.Nat.{ℕ, _<_};
+ghost use lib.ListN.{length};
+ghost use Rattle.departure.specs.Answer.{InLimits};
+ghost use Rattle.text.specs.Writing.{Wrote};
+ghost use Rattle.listing.specs.Listing.{numbersText, headLine, departureText, stateLine, stateLines, totalLine, refusalLine};
+ghost use Rattle.listing.specs.Rows.{namesFrom, Rows};
+
+// Two numbers, each after a comma.
+fn put_numbers(out: &mut [u8], at: usize, x: u64, y: u64) -> usize
+    ensures { λ r. ⌜ Wrote (now (out .entry)) at (numbersText x y) (now (out .exit)) r ⌝ }
+{
+    let comma = text::put_byte(out, at, b',');
+    let number = text::put_decimal(out, comma, x);
+    let next = text::put_byte(out, number, b',');
+    text::put_decimal(out, next, y)
+}
+
+// Line 1.
+pub fn put_head(out: &mut [u8], at: usize, method: Method, house: u64, states: u64) -> usize
+    ensures { λ r. ⌜ Wrote (now (out .entry)) at (headLine method house states) (now (out .exit)) r ⌝ }
+{
+    let word = text::put_bytes(out, at, b"allotment,");
+    let named = text::put_method(out, word, method);
+    let numbers = put_numbers(out, named, house, states);
+    text::put_byte(out, numbers, b'\n')
+}
+
+// The shown departure and the mark of a state, or `none` for both.
+fn put_departure(
+    out: &mut [u8],
+    at: usize,
+    population: u64,
+    seats: u64,
+    total: u64,
+    house: u64,
+) -> usize
+    requires { ⌜ InLimits population seats total house ⌝ }
+    ensures { λ r. ⌜ Wrote (now (out .entry)) at (departureText population seats total house) (now (out .exit)) r ⌝ }
+{
+    if seats == 0 {
+        return text::put_bytes(out, at, b"none,none");
+    }
+    let departure = Departure::of(population, seats, total, house);
+    let shown = text::put_shown(out, at, departure.hundredths());
+    let comma = text::put_byte(out, shown, b',');
+    text::put_mark(out, comma, departure.mark())
+}
+
+// A state's line.
+fn put_state(
+    out: &mut [u8],
+    at: usize,
+    name: &[u8],
+    population: u64,
+    seats: u64,
+    total: u64,
+    house: u64,
+) -> usize
+    requires { ⌜ InLimits population seats total house ⌝ }
+    ensures { λ r. ⌜ Wrote (now (out .entry)) at (stateLine (now (name .entry)) population seats total house) (now (out .exit)) r ⌝ }
+{
+    let named = text::put_bytes(out, at, name);
+    let numbers = put_numbers(out, named, population, seats);
+    let comma = text::put_byte(out, numbers, b',');
+    let shown = put_departure(out, comma, population, seats, total, house);
+    text::put_byte(out, shown, b'\n')
+}
+
+// The states' lines. Their names stand on the lines of the register that start at `rows`.
+pub fn put_states(
+    out: &mut [u8],
+    at: usize,
+    rows: &[u8],
+    populations: &[u64],
+    seats: &[u64],
+    total: u64,
+    house: u64,
+) -> usize
+    requires { ⌜ Wrote (now out) at [] (now out) at × Rows (now populations) (now seats) total house ⌝ }
+    ensures { λ r. ⌜ Wrote (now (out .entry)) at (stateLines (namesFrom (now (rows .entry))) (now (populations .entry)) (now (seats .entry)) total house (length (now (populations .entry)))) (now (out .exit)) r ⌝ }
+{
+    let mut next = at;
+    let mut row = rows;
+    let mut k = 0;
+    while k < populations.len() {
+        next = put_state(
+            out,
+            next,
+            pairs::name_at(row),
+            populations[k],
+            seats[k],
+            total,
+            house,
+        );
+        let rest = cut::rest(row);
+        row = rest;
+        k += 1;
+    }
+    next
+}
+
+// The last line.
+pub fn put_total(out: &mut [u8], at: usize, total: u64, allotted: u64) -> usize
+    ensures { λ r. ⌜ Wrote (now (out .entry)) at (totalLine total allotted) (now (out .exit)) r ⌝ }
+{
+    let word = text::put_bytes(out, at, b"total");
+    let numbers = put_numbers(out, word, total, allotted);
+    text::put_byte(out, numbers, b'\n')
+}
+
+// The one line of a refusal.
+pub fn put_refusal(out: &mut [u8], at: usize, number: u64, line: u64) -> usize
+    ensures { λ r. ⌜ Wrote (now (out .entry)) at (refusalLine number line) (now (out .exit)) r ⌝ }
+{
+    let word = text::put_bytes(out, at, b"refused");
+    let numbers = put_numbers(out, word, number, line);
+    text::put_byte(out, numbers, b'\n')
+}
