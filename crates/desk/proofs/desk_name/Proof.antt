@@ -1,0 +1,43 @@
+-- `desk::desk_name` is right because what is left from the state's line on is an end of the register, so that the line starts as far in as the register is longer.
+-- Assumes nothing.
+use borrow.Author.Needs.{needs}
+use borrow.Author.Tests.{eq-eqb, ne-eqb}
+use Rattle.desk.proofs.desk_name.Statement.{statement}
+use Rattle.desk.specs.Part.{partIf, partOf, stateLine, line-shorter}
+use Rattle.desk.proofs.desk_name.Tie as tie
+
+name-refusal-requires : tie.Need-name-refusal-requires
+name-refusal-requires c κs = search needs
+
+returns : tie.Need-returns
+unfolding partOf partIf
+returns c = rw (rw (c .before .before .name-refusal .ensures) at (ne-eqb _ _ (c .if1 .taken)), c .before .before .name-refusal .ensures)
+
+rest-requires : tie.Need-rest-requires
+rest-requires c κs = search needs
+
+lines-after-requires : tie.Need-lines-after-requires
+lines-after-requires c κs = search needs
+
+name-at-requires : tie.Need-name-at-requires
+name-at-requires c κs = search needs
+
+sub-start : tie.Need-sub-start
+unfolding stateLine
+sub-start c = rw (c .before .lines-after .ensures, c .before .before .rest .ensures) (line-shorter (c .before .before .before .before .before .before .before .args .bytes .now) (c .before .before .before .before .before .before .before .args .place))
+
+returns-2 : tie.Need-returns-2
+unfolding partOf partIf stateLine
+returns-2 c = rw (c .name-at .ensures, c .before .lines-after .ensures, c .before .before .rest .ensures, rw (c .before .before .before .before .before .name-refusal .ensures) at (eq-eqb _ _ (c .before .before .before .if1 .left)))
+
+pub desk-name-spec : {M : Type 1} → statement M
+desk-name-spec =
+    tie.close
+    (tie.spec
+    name-refusal-requires
+    returns
+    rest-requires
+    lines-after-requires
+    name-at-requires
+    sub-start
+    returns-2)

@@ -1,0 +1,16 @@
+-- `desk::exported_reading` copies each field, but for the method, whose number it takes.
+-- Assumes nothing.
+use borrow.Author.Needs.{needs}
+use Rattle.desk.proofs.exported_reading.Statement.{statement}
+use Rattle.desk.specs.Exported.{exportedReading}
+use Rattle.desk.proofs.exported_reading.Tie as tie
+
+method-number-requires : tie.Need-method-number-requires
+method-number-requires c κs = search needs
+
+returns : tie.Need-returns
+unfolding exportedReading
+returns c = rw (c .before .method-number .ensures)
+
+pub exported-reading-spec : {M : Type 1} → statement M
+exported-reading-spec = tie.close (tie.spec method-number-requires returns)

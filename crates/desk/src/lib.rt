@@ -1,0 +1,335 @@
+// The C interface, as include/desk.h words it: each operation over numbers and lent lists, with its record handed back by value. An enum is
+// a number here, and the part of a register that holds a name is its start and length.
+use allot::allot;
+use apportionment::Mark;
+use apportionment::Method;
+use apportionment::STATE_LIMIT;
+use apportionment::refusals;
+use departure::Answer;
+use departure::departure_of;
+use fields::cut;
+use lines::pairs;
+use listing::Listed;
+use listing::write_listing;
+use placing::Placed;
+use placing::Placing;
+use register::Reading;
+use register::lines_after;
+use register::name_refusal;
+use register::read;
+ghost use mathlib.Core.Path.{_≡_};
+ghost use lib.ListN.{length};
+ghost use Rattle.departure.specs.Answer.{departureOf};
+ghost use Rattle.departure.specs.declared.Answer.the-variants.{Shown};
+ghost use Rattle.listing.specs.Listing.{listedOf, bufferAfter};
+ghost use Rattle.placing.specs.Placing.{openedOf, steppedOf};
+ghost use Rattle.register.specs.Register.{readingOf};
+ghost use Rattle.desk.specs.Numbers.{methodNumber, methodAt, markNumber};
+ghost use Rattle.desk.specs.Exported.{exportedReading, exportedPlacing, innerPlacing, exportedPlaced, exportedAnswer, exportedListed};
+ghost use Rattle.desk.specs.Allotting.{allottedBy, seatsBy};
+ghost use Rattle.desk.specs.Part.{partOf};
+
+// The number of the last method.
+const LAST_METHOD: u64 = 6;
+
+// The number of the mark of a state without seats.
+const MARK_NONE: u64 = 3;
+
+#[repr(C)]
+pub struct DeskReading {
+    pub refusal: u64,
+    pub line: u64,
+    pub method: u64,
+    pub house: u64,
+    pub states: u64,
+    pub total: u64,
+    pub populations: [u64; STATE_LIMIT],
+}
+
+#[repr(C)]
+pub struct DeskAllotted {
+    pub refusal: u64,
+    pub steps: u64,
+}
+
+#[repr(C)]
+pub struct DeskPlacing {
+    pub states: u64,
+    pub house: u64,
+    pub total: u64,
+    pub steps: u64,
+    pub populations: [u64; STATE_LIMIT],
+    pub seats: [u64; STATE_LIMIT],
+}
+
+#[repr(C)]
+pub struct DeskPlaced {
+    pub refusal: u64,
+    pub placing: DeskPlacing,
+}
+
+#[repr(C)]
+pub struct DeskShown {
+    pub refusal: u64,
+    pub hundredths: i64,
+    pub mark: u64,
+}
+
+#[repr(C)]
+pub struct DeskWritten {
+    pub refusal: u64,
+    pub line: u64,
+    pub length: u64,
+}
+
+#[repr(C)]
+pub struct DeskPart {
+    pub refusal: u64,
+    pub line: u64,
+    pub start: u64,
+    pub length: u64,
+}
+
+// The number of a method, in the order in which document 01 names them.
+fn method_number(method: Method) -> u64
+    ensures { λ r. ⌜ r ≡ methodNumber method ⌝ }
+{
+    match method {
+        Method::Leximin => 0,
+        Method::Adams => 1,
+        Method::Dean => 2,
+        Method::Hill => 3,
+        Method::Webster => 4,
+        Method::Jefferson => 5,
+        Method::Remainders => 6,
+    }
+}
+
+// The method with a number; the last one for any number past it.
+fn method_at(number: u64) -> Method
+    ensures { λ r. ⌜ r ≡ methodAt number ⌝ }
+{
+    if number == 0 {
+        return Method::Leximin;
+    }
+    if number == 1 {
+        return Method::Adams;
+    }
+    if number == 2 {
+        return Method::Dean;
+    }
+    if number == 3 {
+        return Method::Hill;
+    }
+    if number == 4 {
+        return Method::Webster;
+    }
+    if number == 5 {
+        return Method::Jefferson;
+    }
+    Method::Remainders
+}
+
+// The number of a mark.
+fn mark_number(mark: Mark) -> u64
+    ensures { λ r. ⌜ r ≡ markNumber mark ⌝ }
+{
+    match mark {
+        Mark::In => 0,
+        Mark::High => 1,
+        Mark::Over => 2,
+        Mark::None => MARK_NONE,
+    }
+}
+
+fn exported_reading(reading: Reading) -> DeskReading
+    ensures { λ r. ⌜ r ≡ exportedReading reading ⌝ }
+{
+    let named = reading.method;
+    let method = method_number(named);
+    let populations = reading.populations;
+    DeskReading {
+        refusal: reading.refusal,
+        line: reading.line,
+        method,
+        house: reading.house,
+        states: reading.states as u64,
+        total: reading.total,
+        populations,
+    }
+}
+
+fn exported_placing(placing: Placing) -> DeskPlacing
+    ensures { λ r. ⌜ r ≡ exportedPlacing placing ⌝ }
+{
+    let populations = placing.populations;
+    let seats = placing.seats;
+    DeskPlacing {
+        states: placing.states as u64,
+        house: placing.house,
+        total: placing.total,
+        steps: placing.steps,
+        populations,
+        seats,
+    }
+}
+
+fn inner_placing(placing: DeskPlacing) -> Placing
+    ensures { λ r. ⌜ r ≡ innerPlacing placing ⌝ }
+{
+    let populations = placing.populations;
+    let seats = placing.seats;
+    Placing {
+        states: placing.states as usize,
+        populations,
+        house: placing.house,
+        seats,
+        total: placing.total,
+        steps: placing.steps,
+    }
+}
+
+fn exported_placed(placed: Placed) -> DeskPlaced
+    ensures { λ r. ⌜ r ≡ exportedPlaced placed ⌝ }
+{
+    let inner = placed.placing;
+    let placing = exported_placing(inner);
+    DeskPlaced {
+        refusal: placed.refusal,
+        placing,
+    }
+}
+
+fn exported_shown(hundredths: i64, mark: Mark) -> DeskShown
+    ensures { λ r. ⌜ r ≡ exportedAnswer (Shown hundredths mark) ⌝ }
+{
+    let mark = mark_number(mark);
+    DeskShown {
+        refusal: refusals::ACCEPTED,
+        hundredths,
+        mark,
+    }
+}
+
+fn exported_answer(answer: Answer) -> DeskShown
+    ensures { λ r. ⌜ r ≡ exportedAnswer answer ⌝ }
+{
+    match answer {
+        Answer::Refused => DeskShown {
+            refusal: refusals::DEPARTURE_OUT_OF_LIMITS,
+            hundredths: 0,
+            mark: MARK_NONE,
+        },
+        Answer::NoSeats => DeskShown {
+            refusal: refusals::ACCEPTED,
+            hundredths: 0,
+            mark: MARK_NONE,
+        },
+        Answer::Shown { hundredths, mark } => exported_shown(hundredths, mark),
+    }
+}
+
+fn exported_listed(listed: Listed) -> DeskWritten
+    ensures { λ r. ⌜ r ≡ exportedListed listed ⌝ }
+{
+    DeskWritten {
+        refusal: listed.refusal,
+        line: listed.line,
+        length: listed.size as u64,
+    }
+}
+
+// Reads a register: refusals 1 to 7, each but the first with the line at fault.
+#[no_mangle]
+pub extern "C" fn desk_read(bytes: &[u8]) -> DeskReading
+    ensures { λ r. ⌜ r ≡ exportedReading (readingOf (now (bytes .entry))) ⌝ }
+{
+    exported_reading(read(bytes))
+}
+
+// Allots a house by the method with a number: 4 for a number that is no method, then allotting's refusals; a refusal leaves the seats as
+// they were.
+#[no_mangle]
+pub extern "C" fn desk_allot(
+    method: u64,
+    house: u64,
+    populations: &[u64],
+    seats: &mut [u64],
+) -> DeskAllotted
+    ensures { λ r. ⌜ r ≡ allottedBy method house (now (populations .entry)) (length (now (seats .entry))) ⌝ }
+    ensures { λ _. ⌜ now (seats .exit) ≡ seatsBy method house (now (populations .entry)) (now (seats .entry)) ⌝ }
+{
+    if LAST_METHOD < method {
+        return DeskAllotted {
+            refusal: refusals::METHOD_UNKNOWN,
+            steps: 0,
+        };
+    }
+    let made = allot(method_at(method), house, populations, seats);
+    DeskAllotted {
+        refusal: made.refusal,
+        steps: made.steps,
+    }
+}
+
+// Opens a placing: refusals 10 to 13 and 15, and everything 0 where one is given.
+#[no_mangle]
+pub extern "C" fn desk_open(populations: &[u64], house: u64) -> DeskPlaced
+    ensures { λ r. ⌜ r ≡ exportedPlaced (openedOf (now (populations .entry)) house) ⌝ }
+{
+    exported_placed(Placing::open(populations, house))
+}
+
+// Moves one seat towards the house: 21 for a placing that opening and steps did not give, 20 at the house, each with the placing as it was.
+#[no_mangle]
+pub extern "C" fn desk_step(placing: DeskPlacing) -> DeskPlaced
+    ensures { λ r. ⌜ r ≡ exportedPlaced (steppedOf (innerPlacing placing)) ⌝ }
+{
+    let inner = inner_placing(placing);
+    exported_placed(inner.step())
+}
+
+// The departure of a state: refusal 30 outside the limits. Refused or without seats the hundredths are 0 and the mark is none.
+#[no_mangle]
+pub extern "C" fn desk_departure(population: u64, seats: u64, total: u64, house: u64) -> DeskShown
+    ensures { λ r. ⌜ r ≡ exportedAnswer (departureOf population seats total house) ⌝ }
+{
+    exported_answer(departure_of(population, seats, total, house))
+}
+
+// Writes the listing of a register at the front of the lent buffer: the refusals of reading and of allotting, then 31 if it is longer than
+// the buffer, which a refusal leaves as it was.
+#[no_mangle]
+pub extern "C" fn desk_listing(bytes: &[u8], out: &mut [u8]) -> DeskWritten
+    ensures { λ r. ⌜ r ≡ exportedListed (listedOf (now (bytes .entry)) (length (now (out .entry)))) ⌝ }
+    ensures { λ _. ⌜ now (out .exit) ≡ bufferAfter (now (bytes .entry)) (now (out .entry)) ⌝ }
+{
+    let listed = write_listing(bytes, out);
+    exported_listed(listed)
+}
+
+// Where the name of the state with a place, counted from 0, starts in the register, and its length: reading's refusals, then 40 for a place
+// that no state has.
+#[no_mangle]
+pub extern "C" fn desk_name(bytes: &[u8], place: usize) -> DeskPart
+    ensures { λ r. ⌜ r ≡ partOf (now (bytes .entry)) place ⌝ }
+{
+    let refusal = name_refusal(bytes, place);
+    if refusal.number != refusals::ACCEPTED {
+        return DeskPart {
+            refusal: refusal.number,
+            line: refusal.line,
+            start: 0,
+            length: 0,
+        };
+    }
+    let left = lines_after(cut::rest(bytes), place);
+    let name = pairs::name_at(left);
+    let start = bytes.len() - left.len();
+    DeskPart {
+        refusal: refusals::ACCEPTED,
+        line: 0,
+        start: start as u64,
+        length: name.len() as u64,
+    }
+}

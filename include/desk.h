@@ -1,0 +1,116 @@
+/* The allotment desk's C interface (System V ABI): numbers and lent arrays only, nothing kept
+   between calls and nothing allocated. A refusal is document 01's number, 0 where none was
+   given, and a line is counted from 1, 0 where none applies. A pointer with a length of 0 is not
+   looked at; a lent array is written only as its function says, and not at all on a refusal. */
+#ifndef DESK_H
+#define DESK_H
+
+#include <stddef.h>
+#include <stdint.h>
+
+#ifdef __cplusplus
+extern "C" {
+#endif
+
+/* The most states, the largest house, the largest sum of populations, the most bytes of a
+   register, and room for any listing. */
+#define DESK_STATES_LIMIT 250
+#define DESK_HOUSE_LIMIT 9999
+#define DESK_SUM_LIMIT UINT64_C(4294967295)
+#define DESK_REGISTER_LIMIT 65536
+#define DESK_LISTING_ROOM 16052
+
+/* The methods. */
+enum {
+    DESK_LEXIMIN = 0,
+    DESK_ADAMS = 1,
+    DESK_DEAN = 2,
+    DESK_HILL = 3,
+    DESK_WEBSTER = 4,
+    DESK_JEFFERSON = 5,
+    DESK_REMAINDERS = 6
+};
+
+/* The marks: a size up to 10 per cent, up to 15, beyond, and a state without seats. */
+enum {
+    DESK_IN = 0,
+    DESK_HIGH = 1,
+    DESK_OVER = 2,
+    DESK_NONE = 3
+};
+
+/* A register as read. The total is the sum of the populations, which hold 0 past the states;
+   refused, everything but the refusal and its line is 0. */
+typedef struct {
+    uint64_t refusal, line, method, house, states, total;
+    uint64_t populations[DESK_STATES_LIMIT];
+} desk_reading;
+
+/* Reads a register: refusals 1 to 7, each but the first with the line at fault. */
+desk_reading desk_read(const uint8_t *bytes, size_t length);
+
+/* An allotment made: the steps are the seats moved from leximin's start, 0 under other methods
+   and on a refusal. */
+typedef struct {
+    uint64_t refusal, steps;
+} desk_allotted;
+
+/* Fills the lent seats with the allotment of the house: refusals 10 to 15, among them 14 unless
+   the room is n, and 4 before all else for a number that is no method. */
+desk_allotted desk_allot(uint64_t method, uint64_t house, const uint64_t *populations, size_t n,
+                         uint64_t *seats, size_t room);
+
+/* The leximin work so far. The total is that of the seats; both lists hold 0 past the states. */
+typedef struct {
+    uint64_t states, house, total, steps;
+    uint64_t populations[DESK_STATES_LIMIT], seats[DESK_STATES_LIMIT];
+} desk_placing;
+
+/* A placing handed back, and whether its call was refused. */
+typedef struct {
+    uint64_t refusal;
+    desk_placing placing;
+} desk_placed;
+
+/* Opens a placing with each state's nearest seats: refusals 10 to 13 and 15, with a placing of
+   zeros. */
+desk_placed desk_open(const uint64_t *populations, size_t n, uint64_t house);
+
+/* Places or withdraws one seat: refusal 21 for a placing that opening and steps do not give, then
+   20 at the house, each with the placing as it was. */
+desk_placed desk_step(desk_placing placing);
+
+/* A shown departure in hundredths of a per cent, and its mark. */
+typedef struct {
+    uint64_t refusal;
+    int64_t hundredths;
+    uint64_t mark;
+} desk_shown;
+
+/* The departure of a state with a population and seats from the average total / house: refusal
+   30 outside the limits. Refused or without seats the hundredths are 0 and the mark is none. */
+desk_shown desk_departure(uint64_t population, uint64_t seats, uint64_t total, uint64_t house);
+
+/* A listing written, and its length, 0 on a refusal. */
+typedef struct {
+    uint64_t refusal, line, length;
+} desk_written;
+
+/* Writes the listing of a register at the front of the lent buffer: the refusals of reading and
+   of allotting, then 31 if the listing is longer than the room. Bytes after it are kept. */
+desk_written desk_listing(const uint8_t *bytes, size_t length, uint8_t *out, size_t room);
+
+/* A part of the register: where it starts and how long it is, 0 and 0 on a refusal. */
+typedef struct {
+    uint64_t refusal, line, start, length;
+} desk_part;
+
+/* The part of the register that holds the name of the state with a given place, counted from 0:
+   reading's refusals, then 40 for a place not below the states. */
+desk_part desk_name(const uint8_t *bytes, size_t length, size_t place);
+
+#ifdef __cplusplus
+}
+#endif
+
+#endif

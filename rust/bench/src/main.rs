@@ -1,0 +1,245 @@
+//! Times the proved desk and the plain reference on the same inputs in one run and prints two
+//! Markdown tables: the library's time over the reference's, and the library's own times.
+//! Build it with `--release`.
+
+use std::hint::black_box;
+use std::time::{Duration, Instant};
+
+const STATES: [usize; 3] = [10, 50, 250];
+const HOUSES: [u64; 3] = [100, 1_000, 9_999];
+const METHODS: [&str; 7] = [
+    "leximin",
+    "adams",
+    "dean",
+    "hill",
+    "webster",
+    "jefferson",
+    "remainders",
+];
+/// Different registers of one shape, over which the times are averaged.
+const INPUTS: u64 = 4;
+/// Repeats, the best of which counts; the two desks take turns.
+const REPEATS: u32 = 40;
+/// A repeat lasts at least so long: short, so that some escape every interruption.
+const SPAN: Duration = Duration::from_micros(200);
+
+/// The library's and the reference's time for one call, in nanoseconds.
+type Times = (f64, f64);
+
+/// One register of a shape, with its populations.
+struct Input {
+    house: u64,
+    populations: Vec<u64>,
+    bytes: Vec<u8>,
+}
+
+fn main() {
+    let mut shapes = Vec::new();
+    for states in STATES {
+        for house in HOUSES {
+            let inputs: Vec<Input> = (1..=INPUTS)
+                .map(|seed| input(states, house, seed))
+                .collect();
+            shapes.push((states, house, inputs));
+        }
+    }
+    let mut rows: Vec<(String, Vec<Option<Times>>)> = Vec::new();
+    for (method, name) in METHODS.iter().enumerate() {
+        let times = shapes.iter().map(|(.., inputs)| allotting(method, inputs));
+        rows.push((format!("allot, {name}"), times.collect()));
+    }
+    let times = shapes.iter().map(|(.., inputs)| stepping(inputs));
+    rows.push(("open and step to the house".into(), times.collect()));
+    let times = shapes.iter().map(|(.., inputs)| Some(reading(inputs)));
+    rows.push(("read".into(), times.collect()));
+    let times = shapes.iter().map(|(.., inputs)| listing(inputs));
+    rows.push(("listing, leximin".into(), times.collect()));
+
+    let heads: Vec<String> = shapes
+        .iter()
+        .map(|(states, house, _)| format!("{states} × {house}"))
+        .collect();
+    println!("Library's time over the reference's, by states × house (below 1 the library is");
+    println!("faster; a dash where the house is below the states and the method refuses it):\n");
+    print_table(&heads, &rows, |(library, reference)| {
+        format!("{:.2}", library / reference)
+    });
+    println!("\nThe library's time for one call, in microseconds:\n");
+    print_table(&heads, &rows, |(library, _)| {
+        format!("{:.1}", library / 1_000.0)
+    });
+}
+
+fn print_table(
+    heads: &[String],
+    rows: &[(String, Vec<Option<Times>>)],
+    show: impl Fn(Times) -> String,
+) {
+    println!("| | {} |", heads.join(" | "));
+    println!("|---|{}", "--:|".repeat(heads.len()));
+    for (name, times) in rows {
+        let cells: Vec<String> = times
+            .iter()
+            .map(|times| times.map_or("-".to_string(), &show))
+            .collect();
+        println!("| {name} | {} |", cells.join(" | "));
+    }
+}
+
+// ---- Inputs
+
+/// A leximin register whose populations spread over three powers of ten.
+fn input(states: usize, house: u64, seed: u64) -> Input {
+    let mut number = seed.wrapping_mul(0x9E37_79B9_7F4A_7C15) ^ house ^ ((states as u64) << 32);
+    let populations: Vec<u64> = (0..states)
+        .map(|_| {
+            number ^= number << 13;
+            number ^= number >> 7;
+            number ^= number << 17;
+            (10_000.0 * 1_000f64.powf((number >> 11) as f64 / (1u64 << 53) as f64)) as u64
+        })
+        .collect();
+    let mut text = format!("register,leximin,{house},{states}\n");
+    for (i, population) in populations.iter().enumerate() {
+        text += &format!("County of Saint {i},{population}\n");
+    }
+    text += &format!("total,{}\n", populations.iter().sum::<u64>());
+    Input {
+        house,
+        populations,
+        bytes: text.into_bytes(),
+    }
+}
+
+// ---- Operations
+
+/// Allotting by one method into the same list over and over; none where the method refuses.
+fn allotting(method: usize, inputs: &[Input]) -> Option<Times> {
+    let library = desk::Method::ALL[method];
+    let plain = reference::Method::ALL[method];
+    let mut seats = vec![0; inputs[0].populations.len()];
+    let mut other = seats.clone();
+    for input in inputs {
+        let house = input.house;
+        let steps = desk::allot(library, house, &input.populations, &mut seats).ok()?;
+        let plain = reference::allot(plain, house, &input.populations, &mut other);
+        assert_eq!(plain, Ok(steps));
+        assert_eq!(seats, other);
+    }
+    Some(time(
+        inputs,
+        |input| {
+            let populations = black_box(&input.populations);
+            desk::allot(library, input.house, populations, &mut seats).is_ok()
+        },
+        |input| {
+            let populations = black_box(&input.populations);
+            reference::allot(plain, input.house, populations, &mut other).is_ok()
+        },
+    ))
+}
+
+/// Opening and every step to the house, the refused one at the end included.
+fn stepping(inputs: &[Input]) -> Option<Times> {
+    let library = |input: &Input| {
+        let mut placing = desk::Placing::open(black_box(&input.populations), input.house).ok()?;
+        loop {
+            let (next, outcome) = placing.step();
+            placing = next;
+            if outcome.is_err() {
+                return Some(placing.seats().to_vec());
+            }
+        }
+    };
+    let plain = |input: &Input| {
+        let populations = black_box(&input.populations);
+        let mut placing = reference::open(populations, input.house).ok()?;
+        loop {
+            let (next, outcome) = placing.step();
+            placing = next;
+            if outcome.is_err() {
+                return Some(placing.seats[..populations.len()].to_vec());
+            }
+        }
+    };
+    for input in inputs {
+        assert_eq!(library(input)?, plain(input)?);
+    }
+    Some(time(inputs, library, plain))
+}
+
+fn reading(inputs: &[Input]) -> Times {
+    for input in inputs {
+        let library = desk::read(&input.bytes).expect("a sound register");
+        let plain = reference::read(&input.bytes).expect("a sound register");
+        assert_eq!(library.populations(), plain.populations);
+    }
+    time(
+        inputs,
+        |input| black_box(desk::read(black_box(&input.bytes))).is_ok(),
+        |input| black_box(reference::read(black_box(&input.bytes))).is_ok(),
+    )
+}
+
+/// Writing listings into the same buffer over and over; none where leximin refuses.
+fn listing(inputs: &[Input]) -> Option<Times> {
+    let mut out = vec![0; desk::LISTING_ROOM];
+    let mut other = out.clone();
+    for input in inputs {
+        let length = desk::write_listing(&input.bytes, &mut out).ok()?;
+        let plain = reference::write_listing(&input.bytes, &mut other);
+        assert_eq!(plain, Ok(length));
+        assert_eq!(out[..length], other[..length]);
+    }
+    Some(time(
+        inputs,
+        |input| desk::write_listing(black_box(&input.bytes), &mut out).is_ok(),
+        |input| reference::write_listing(black_box(&input.bytes), &mut other).is_ok(),
+    ))
+}
+
+// ---- Timing
+
+/// The time of one call of each desk: the best of the repeats, averaged over the inputs.
+fn time<A, B>(
+    inputs: &[Input],
+    mut library: impl FnMut(&Input) -> A,
+    mut plain: impl FnMut(&Input) -> B,
+) -> Times {
+    let mut sum = (0.0, 0.0);
+    for input in inputs {
+        let mut library = || library(input);
+        let mut plain = || plain(input);
+        let calls = (calls(&mut library), calls(&mut plain));
+        let mut best = (f64::INFINITY, f64::INFINITY);
+        for _ in 0..REPEATS {
+            best.0 = best.0.min(repeat(calls.0, &mut library));
+            best.1 = best.1.min(repeat(calls.1, &mut plain));
+        }
+        sum.0 += best.0;
+        sum.1 += best.1;
+    }
+    (sum.0 / inputs.len() as f64, sum.1 / inputs.len() as f64)
+}
+
+/// How many calls a repeat needs to last long enough, tried twice so that one interruption does
+/// not settle it.
+fn calls<A>(run: &mut impl FnMut() -> A) -> u32 {
+    let mut calls = 1;
+    loop {
+        let one = repeat(calls, run).min(repeat(calls, run));
+        if one * calls as f64 >= SPAN.as_nanos() as f64 {
+            return calls;
+        }
+        calls *= 2;
+    }
+}
+
+/// The time of one call out of so many, in nanoseconds.
+fn repeat<A>(calls: u32, run: &mut impl FnMut() -> A) -> f64 {
+    let start = Instant::now();
+    for _ in 0..calls {
+        black_box(run());
+    }
+    start.elapsed().as_nanos() as f64 / calls as f64
+}

@@ -1,0 +1,410 @@
+//! One case given to both desks. The library's answers come through the C interface, with guards
+//! around everything it is lent; the reference's are put into the same form.
+
+use crate::Case;
+use desk::ffi;
+use reference::{Mark, Method, Placing, Refusal, Register};
+use std::fmt::Debug;
+
+/// What a run has seen: inputs by kind, calls to the library, answers by refusal number (0 where
+/// none was given), and placings and allotments compared with the search.
+#[derive(Clone, Debug)]
+pub struct Counts {
+    pub inputs: [u64; Case::KINDS.len()],
+    pub calls: u64,
+    pub refusals: [u64; 64],
+    pub searched: u64,
+}
+
+impl Default for Counts {
+    fn default() -> Counts {
+        Counts {
+            inputs: [0; Case::KINDS.len()],
+            calls: 0,
+            refusals: [0; 64],
+            searched: 0,
+        }
+    }
+}
+
+impl Counts {
+    pub fn add(&mut self, other: &Counts) {
+        for (mine, more) in self.inputs.iter_mut().zip(other.inputs) {
+            *mine += more;
+        }
+        for (mine, more) in self.refusals.iter_mut().zip(other.refusals) {
+            *mine += more;
+        }
+        self.calls += other.calls;
+        self.searched += other.searched;
+    }
+
+    fn call(&mut self, refusal: u64) {
+        self.calls += 1;
+        self.refusals[refusal as usize] += 1;
+    }
+}
+
+/// Compares the two desks on one case; an error says what differs.
+pub fn check(case: &Case, counts: &mut Counts) -> Result<(), String> {
+    counts.inputs[case.kind()] += 1;
+    match case {
+        Case::Register { room, place, bytes } => {
+            check_read(bytes, counts)?;
+            check_name(bytes, *place, counts)?;
+            check_listing(bytes, *room, counts)
+        }
+        Case::Allot {
+            method,
+            house,
+            room,
+            populations,
+        } => check_allot(*method, *house, populations, *room, counts),
+        Case::Walk { house, populations } => check_walk(populations, *house, counts),
+        Case::Step { placing } => check_step(placing, counts).map(|_| ()),
+        &Case::Departure {
+            population,
+            seats,
+            total,
+            house,
+        } => check_departure(population, seats, total, house, counts),
+    }
+}
+
+// ---- Guards
+
+/// A lent slice in the middle of a larger one, with known contents everywhere.
+struct Lent<T> {
+    whole: Vec<T>,
+    length: usize,
+}
+
+const GUARD: usize = 32;
+
+impl<T: Copy + PartialEq + Debug> Lent<T> {
+    /// A list to be read, between guards.
+    fn holding(list: &[T], guard: &[T; GUARD]) -> Lent<T> {
+        Lent {
+            whole: [guard, list, guard].concat(),
+            length: list.len(),
+        }
+    }
+
+    /// A list to be written, filled with what it must not lose.
+    fn to_fill(length: usize, content: impl Fn(usize) -> T) -> Lent<T> {
+        Lent {
+            whole: (0..length + 2 * GUARD).map(content).collect(),
+            length,
+        }
+    }
+
+    fn middle(&mut self) -> &mut [T] {
+        &mut self.whole[GUARD..GUARD + self.length]
+    }
+
+    /// A pointer from which a stray write or read stays within the guards.
+    fn pointer(&mut self) -> *mut T {
+        self.whole[GUARD..].as_mut_ptr()
+    }
+}
+
+/// Around a register: an end of line and what could go on after it, to be seen if read.
+const BYTES_GUARD: [u8; GUARD] = *b"\ntotal,1\n0,1\ntotal,2\nregister,\r\n";
+/// Around populations: numbers that would change an allotment.
+const NUMBERS_GUARD: [u64; GUARD] = [3; GUARD];
+
+fn junk_byte(i: usize) -> u8 {
+    (i as u8).wrapping_mul(37) ^ 0xA5
+}
+
+fn junk_number(i: usize) -> u64 {
+    (i as u64 + 1).wrapping_mul(0x9E37_79B9_7F4A_7C15)
+}
+
+fn same<T: PartialEq + Debug>(what: &str, expected: &T, found: &T) -> Result<(), String> {
+    if expected == found {
+        return Ok(());
+    }
+    let (expected, found) = (format!("{expected:?}"), format!("{found:?}"));
+    let alike = expected.bytes().zip(found.bytes());
+    let first = alike.take_while(|(a, b)| a == b).count();
+    let about = |text: &str| -> String {
+        let from = first.saturating_sub(200);
+        text.chars().skip(from).take(400).collect()
+    };
+    Err(format!(
+        "{what}\n  expected {}\n  found    {}",
+        about(&expected),
+        about(&found)
+    ))
+}
+
+// ---- Registers
+
+fn check_read(bytes: &[u8], counts: &mut Counts) -> Result<(), String> {
+    let answer = reference::read(bytes);
+    let expected = reading(&answer);
+    let mut lent = Lent::holding(bytes, &BYTES_GUARD);
+    let before = lent.whole.clone();
+    // SAFETY: the pointer has as many bytes after it as the length says.
+    let found = unsafe { ffi::desk_read(lent.pointer(), bytes.len()) };
+    counts.call(expected.refusal);
+    same("desk_read", &expected, &found)?;
+    same("register after desk_read", &before, &lent.whole)
+}
+
+fn reading(answer: &Result<Register, Refusal>) -> ffi::Reading {
+    let mut reading = ffi::Reading {
+        refusal: 0,
+        line: 0,
+        method: 0,
+        house: 0,
+        states: 0,
+        total: 0,
+        populations: [0; 250],
+    };
+    match answer {
+        Ok(register) => {
+            let n = register.populations.len();
+            reading.method = register.method as u64;
+            reading.house = register.house;
+            reading.states = n as u64;
+            reading.total = register.total;
+            reading.populations[..n].copy_from_slice(&register.populations);
+        }
+        Err(refusal) => {
+            reading.refusal = refusal.number;
+            reading.line = refusal.line;
+        }
+    }
+    reading
+}
+
+fn check_name(bytes: &[u8], place: usize, counts: &mut Counts) -> Result<(), String> {
+    let expected = match reference::name(bytes, place) {
+        Ok(name) => ffi::Part {
+            refusal: 0,
+            line: 0,
+            start: (name.as_ptr() as usize - bytes.as_ptr() as usize) as u64,
+            length: name.len() as u64,
+        },
+        Err(refusal) => ffi::Part {
+            refusal: refusal.number,
+            line: refusal.line,
+            start: 0,
+            length: 0,
+        },
+    };
+    let mut lent = Lent::holding(bytes, &BYTES_GUARD);
+    let before = lent.whole.clone();
+    // SAFETY: the pointer has as many bytes after it as the length says.
+    let found = unsafe { ffi::desk_name(lent.pointer(), bytes.len(), place) };
+    counts.call(expected.refusal);
+    same("desk_name", &expected, &found)?;
+    same("register after desk_name", &before, &lent.whole)
+}
+
+fn check_listing(bytes: &[u8], room: usize, counts: &mut Counts) -> Result<(), String> {
+    let mut written = Lent::to_fill(room, junk_byte);
+    let expected = match reference::write_listing(bytes, written.middle()) {
+        Ok(length) => ffi::Written {
+            refusal: 0,
+            line: 0,
+            length: length as u64,
+        },
+        Err(refusal) => ffi::Written {
+            refusal: refusal.number,
+            line: refusal.line,
+            length: 0,
+        },
+    };
+    let mut lent = Lent::holding(bytes, &BYTES_GUARD);
+    let before = lent.whole.clone();
+    let mut out = Lent::to_fill(room, junk_byte);
+    // SAFETY: each pointer has as many bytes after it as its length says.
+    let found = unsafe { ffi::desk_listing(lent.pointer(), bytes.len(), out.pointer(), room) };
+    counts.call(expected.refusal);
+    same("desk_listing", &expected, &found)?;
+    same("register after desk_listing", &before, &lent.whole)?;
+    let (expected, found) = (
+        String::from_utf8_lossy(&written.whole),
+        String::from_utf8_lossy(&out.whole),
+    );
+    same(
+        "buffer after desk_listing, guards included",
+        &expected,
+        &found,
+    )?;
+    same("bytes after desk_listing", &written.whole, &out.whole)
+}
+
+// ---- Allotting
+
+fn check_allot(
+    method: u64,
+    house: u64,
+    populations: &[u64],
+    room: usize,
+    counts: &mut Counts,
+) -> Result<(), String> {
+    let mut written = Lent::to_fill(room, junk_number);
+    let answer = match Method::ALL.get(method as usize) {
+        Some(&method) => reference::allot(method, house, populations, written.middle())
+            .map_err(|refusal| refusal.number),
+        None => Err(4),
+    };
+    let expected = match answer {
+        Ok(steps) => ffi::Allotted { refusal: 0, steps },
+        Err(refusal) => ffi::Allotted { refusal, steps: 0 },
+    };
+    let mut lent = Lent::holding(populations, &NUMBERS_GUARD);
+    let before = lent.whole.clone();
+    let mut seats = Lent::to_fill(room, junk_number);
+    // SAFETY: each pointer has as many numbers after it as its length says.
+    let found = unsafe {
+        ffi::desk_allot(
+            method,
+            house,
+            lent.pointer(),
+            populations.len(),
+            seats.pointer(),
+            room,
+        )
+    };
+    counts.call(expected.refusal);
+    same("desk_allot", &expected, &found)?;
+    same("populations after desk_allot", &before, &lent.whole)?;
+    same("seats after desk_allot", &written.whole, &seats.whole)?;
+    if method == 0 && found.refusal == 0 {
+        check_search(populations, house, house, seats.middle(), counts)?;
+    }
+    Ok(())
+}
+
+/// For a small problem, the seats have to be those that the search through every allotment finds.
+fn check_search(
+    populations: &[u64],
+    house: u64,
+    total: u64,
+    seats: &[u64],
+    counts: &mut Counts,
+) -> Result<(), String> {
+    if allotments(populations.len() as u64, total) > 400 {
+        return Ok(());
+    }
+    counts.searched += 1;
+    let least = reference::search(populations, house, total).expect("a total not below n");
+    same("seats against the search", &&least[..], &seats)
+}
+
+/// How many allotments a total has, a seat at least for each state; cut off once it is large.
+fn allotments(states: u64, total: u64) -> u64 {
+    let mut ways: u64 = 1;
+    for k in 1..states {
+        ways = ways * (total - k) / k;
+        if ways > 1_000_000 {
+            break;
+        }
+    }
+    ways
+}
+
+// ---- Placings
+
+const NO_PLACING: ffi::Placing = ffi::Placing {
+    states: 0,
+    house: 0,
+    total: 0,
+    steps: 0,
+    populations: [0; 250],
+    seats: [0; 250],
+};
+
+fn in_c(placing: &Placing) -> ffi::Placing {
+    ffi::Placing {
+        states: placing.states,
+        house: placing.house,
+        total: placing.total,
+        steps: placing.steps,
+        populations: placing.populations,
+        seats: placing.seats,
+    }
+}
+
+fn check_walk(populations: &[u64], house: u64, counts: &mut Counts) -> Result<(), String> {
+    let opened = reference::open(populations, house);
+    let expected = match &opened {
+        Ok(placing) => ffi::Placed {
+            refusal: 0,
+            placing: in_c(placing),
+        },
+        Err(refusal) => ffi::Placed {
+            refusal: refusal.number,
+            placing: NO_PLACING,
+        },
+    };
+    let mut lent = Lent::holding(populations, &NUMBERS_GUARD);
+    let before = lent.whole.clone();
+    // SAFETY: the pointer has as many numbers after it as the length says.
+    let found = unsafe { ffi::desk_open(lent.pointer(), populations.len(), house) };
+    counts.call(expected.refusal);
+    same("desk_open", &expected, &found)?;
+    same("populations after desk_open", &before, &lent.whole)?;
+
+    let Ok(mut placing) = opened else {
+        return Ok(());
+    };
+    let gap = placing.total.abs_diff(house);
+    for _ in 0..gap + 3 {
+        let seats = &placing.seats[..populations.len()];
+        check_search(populations, house, placing.total, seats, counts)?;
+        placing = check_step(&placing, counts)?;
+    }
+    same(
+        "total after as many steps as the gap",
+        &house,
+        &placing.total,
+    )?;
+    same("steps after as many steps as the gap", &gap, &placing.steps)
+}
+
+/// Hands on the placing that both desks agree on.
+fn check_step(placing: &Placing, counts: &mut Counts) -> Result<Placing, String> {
+    let (next, outcome) = placing.step();
+    let expected = ffi::Placed {
+        refusal: outcome.map_or_else(|refusal| refusal.number, |()| 0),
+        placing: in_c(&next),
+    };
+    // SAFETY: the placing is handed over by value.
+    let found = unsafe { ffi::desk_step(in_c(placing)) };
+    counts.call(expected.refusal);
+    same("desk_step", &expected, &found)?;
+    Ok(next)
+}
+
+// ---- Departures
+
+fn check_departure(
+    population: u64,
+    seats: u64,
+    total: u64,
+    house: u64,
+    counts: &mut Counts,
+) -> Result<(), String> {
+    let (refusal, hundredths, mark) = match reference::departure(population, seats, total, house) {
+        Ok(Some((hundredths, Mark::In))) => (0, hundredths, 0),
+        Ok(Some((hundredths, Mark::High))) => (0, hundredths, 1),
+        Ok(Some((hundredths, Mark::Over))) => (0, hundredths, 2),
+        Ok(None) => (0, 0, 3),
+        Err(refusal) => (refusal.number, 0, 3),
+    };
+    let expected = ffi::Shown {
+        refusal,
+        hundredths,
+        mark,
+    };
+    // SAFETY: numbers alone are handed over.
+    let found = unsafe { ffi::desk_departure(population, seats, total, house) };
+    counts.call(refusal);
+    same("desk_departure", &expected, &found)
+}

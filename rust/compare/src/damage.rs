@@ -1,0 +1,245 @@
+//! Registers as text: sound ones in every accepted dress, and damage to lines, fields and bytes.
+
+use crate::problem;
+use crate::random::Random;
+
+const METHODS: [&str; 7] = [
+    "leximin",
+    "adams",
+    "dean",
+    "hill",
+    "webster",
+    "jefferson",
+    "remainders",
+];
+
+/// A register before it is written out: the fields of each line, and how each line ends.
+#[derive(Clone)]
+pub struct Draft {
+    pub lines: Vec<Vec<Vec<u8>>>,
+    pub ends: Vec<Vec<u8>>,
+}
+
+impl Draft {
+    /// A sound register in plain dress.
+    pub fn plain(method: &str, house: u64, names: &[String], populations: &[u64]) -> Draft {
+        let number = |x: u64| x.to_string().into_bytes();
+        let word = |text: &str| text.as_bytes().to_vec();
+        let count = populations.len() as u64;
+        let mut lines = vec![vec![
+            word("register"),
+            word(method),
+            number(house),
+            number(count),
+        ]];
+        for (name, &population) in names.iter().zip(populations) {
+            lines.push(vec![word(name), number(population)]);
+        }
+        lines.push(vec![word("total"), number(populations.iter().sum())]);
+        let ends = vec![word("\n"); lines.len()];
+        Draft { lines, ends }
+    }
+
+    pub fn bytes(&self) -> Vec<u8> {
+        let mut bytes = Vec::new();
+        for (fields, end) in self.lines.iter().zip(&self.ends) {
+            bytes.extend(fields.join(&b","[..]));
+            bytes.extend(end);
+        }
+        bytes
+    }
+}
+
+/// A sound register: any method, names of every accepted kind, either line end, leading zeros.
+pub fn sound(random: &mut Random) -> Draft {
+    let (populations, house) = problem::problem(random);
+    let house = match random.below(12) {
+        0 => random.from(1, house),
+        _ => house,
+    };
+    let style = random.below(5);
+    let names: Vec<String> = (0..populations.len()).map(|i| name(style, i)).collect();
+    let mut draft = Draft::plain(random.pick(&METHODS), house, &names, &populations);
+    if random.once_in(4) {
+        let always = random.once_in(2);
+        for end in &mut draft.ends {
+            if always || random.once_in(2) {
+                *end = b"\r\n".to_vec();
+            }
+        }
+    }
+    if random.once_in(4) {
+        for place in numbers(&draft) {
+            if random.once_in(2) {
+                let field = &mut draft.lines[place.0][place.1];
+                let zeros = random.below(11 - field.len() as u64) as usize;
+                field.splice(0..0, vec![b'0'; zeros]);
+            }
+        }
+    }
+    draft
+}
+
+/// The name of the state at a place, in one of five styles.
+pub fn name(style: u64, place: usize) -> String {
+    match style {
+        0 => format!("S{place}"),
+        1 => format!("County of Saint {place}"),
+        2 => format!("{place:~>32}"),
+        3 => ["total", "register", "leximin", "0", "!", "~", "a", "A"]
+            .get(place)
+            .map_or_else(|| format!("{}", 1000 + place), |word| word.to_string()),
+        _ => format!("{}{place}", "x".repeat(place % 29)),
+    }
+}
+
+/// Where the numbers of a sound register stand: line and field.
+fn numbers(draft: &Draft) -> Vec<(usize, usize)> {
+    let mut places = vec![(0, 2), (0, 3)];
+    places.extend((1..draft.lines.len()).map(|line| (line, 1)));
+    places
+}
+
+/// A register with some damage, or none.
+pub fn register(random: &mut Random) -> Vec<u8> {
+    let mut draft = sound(random);
+    match random.below(10) {
+        0..=3 => return draft.bytes(),
+        4..=6 => harm_draft(random, &mut draft),
+        7 => {
+            for _ in 0..random.from(2, 4) {
+                harm_draft(random, &mut draft);
+            }
+        }
+        _ => (),
+    }
+    let mut bytes = draft.bytes();
+    if random.once_in(2) {
+        for _ in 0..random.from(1, 2) {
+            harm_bytes(random, &mut bytes);
+        }
+    }
+    bytes
+}
+
+/// Damage to one line or field.
+fn harm_draft(random: &mut Random, draft: &mut Draft) {
+    if draft.lines.is_empty() {
+        return;
+    }
+    // The head and the closing line are chosen as often as all states together.
+    let line = match random.below(4) {
+        0 => 0,
+        1 => draft.lines.len() - 1,
+        _ => random.place(&draft.lines),
+    };
+    let other = random.place(&draft.lines);
+    match random.below(12) {
+        0 => {
+            draft.lines.remove(line);
+            draft.ends.remove(line);
+        }
+        1 => {
+            let copy = draft.lines[line].clone();
+            draft.lines.insert(other, copy);
+            draft.ends.insert(other, b"\n".to_vec());
+        }
+        2 => draft.lines.swap(line, other),
+        3 => draft.ends[line] = random.pick(&["", "\r", "\r\r\n", "\n\r", "\n\n"]).into(),
+        4 => {
+            let field = random.from(0, draft.lines[line].len() as u64) as usize;
+            draft.lines[line].insert(field, random.pick(&["", "1", "x"]).into());
+        }
+        5 => {
+            draft.lines[line].pop();
+        }
+        6 => {
+            // One name twice.
+            if let Some(name) = draft.lines[other].first().cloned() {
+                if let Some(field) = draft.lines[line].first_mut() {
+                    *field = name;
+                }
+            }
+        }
+        _ => {
+            if !draft.lines[line].is_empty() {
+                let field = random.place(&draft.lines[line]);
+                let text = &mut draft.lines[line][field];
+                *text = harmed_field(random, text);
+            }
+        }
+    }
+}
+
+/// Something else in the place of a field: a near miss of it, or a value at some limit.
+fn harmed_field(random: &mut Random, field: &[u8]) -> Vec<u8> {
+    const VALUES: [&str; 32] = [
+        "",
+        "0",
+        "1",
+        "00",
+        "000000000",
+        "0000000000",
+        "00000000000",
+        "00000000001",
+        "9999",
+        "10000",
+        "09999",
+        "250",
+        "251",
+        "4294967295",
+        "4294967296",
+        "04294967295",
+        "9999999999",
+        "99999999999",
+        "18446744073709551617",
+        "+5",
+        "-5",
+        "5.0",
+        "5 ",
+        " 5",
+        "0x5",
+        "total",
+        "register",
+        "LEXIMIN",
+        "leximin",
+        "webster\t",
+        "\u{7f}",
+        "\u{e9}",
+    ];
+    let number = std::str::from_utf8(field)
+        .ok()
+        .and_then(|text| text.parse::<u64>().ok());
+    match (random.below(12), number) {
+        (0, Some(x)) => (x + 1).to_string().into_bytes(),
+        (1, Some(x)) => x.saturating_sub(1).to_string().into_bytes(),
+        (2, Some(x)) => format!("{x:010}").into_bytes(),
+        (3, Some(x)) => format!("{x:011}").into_bytes(),
+        (4, _) => vec![random.pick(b"x~ 0\r"); random.pick(&[1, 31, 32, 33, 40])],
+        (5, _) => [field, random.pick(&[&b" "[..], b"\r", b"x", b"\t"])].concat(),
+        (6, _) => [random.pick(&[&b" "[..], b"\r", b"x", b"0"]), field].concat(),
+        _ => random.pick(&VALUES).into(),
+    }
+}
+
+/// Damage to single bytes: cut, changed, inserted, doubled, taken out.
+fn harm_bytes(random: &mut Random, bytes: &mut Vec<u8>) {
+    if bytes.is_empty() {
+        return;
+    }
+    let at = random.place(bytes);
+    let byte = match random.below(3) {
+        0 => random.below(256) as u8,
+        _ => random.pick(b",\n\r 019aAt~\x00\x1f\x7f\x80\xff"),
+    };
+    match random.below(6) {
+        0 => bytes.truncate(at),
+        1 => bytes[at] = byte,
+        2 => bytes.insert(at, byte),
+        3 => bytes.insert(at, bytes[at]),
+        4 => bytes.push(byte),
+        _ => {
+            bytes.remove(at);
+        }
+    }
+}

@@ -1,0 +1,44 @@
+//! The proved desk against the plain reference: seeded inputs are given to both through the C
+//! interface, and every number, list and lent buffer that comes back has to agree.
+
+mod case;
+mod check;
+mod damage;
+mod fixed;
+mod placing;
+mod problem;
+mod random;
+mod seeded;
+
+pub use case::Case;
+pub use check::{check, Counts};
+pub use fixed::fixed;
+pub use seeded::seeded;
+
+/// The inputs of a run: the fixed ones first, then as many seeded ones as are asked for.
+pub struct Inputs {
+    seed: u64,
+    fixed: Vec<Case>,
+}
+
+impl Inputs {
+    pub fn new(seed: u64) -> Inputs {
+        Inputs {
+            seed,
+            fixed: fixed(seed),
+        }
+    }
+
+    /// The input with a given number, counted from 0.
+    pub fn get(&self, number: u64) -> Case {
+        match self.fixed.get(number as usize) {
+            Some(case) => case.clone(),
+            None => seeded(self.seed, number),
+        }
+    }
+
+    /// How many of the inputs are fixed.
+    pub fn fixed(&self) -> u64 {
+        self.fixed.len() as u64
+    }
+}

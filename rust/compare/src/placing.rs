@@ -1,0 +1,109 @@
+//! Placings for single steps: genuine ones from any place on the way, and forged ones.
+
+use crate::problem;
+use crate::random::Random;
+use reference::{open, Placing};
+
+/// A placing on its way or at the house, forged more often than not.
+pub fn placing(random: &mut Random) -> Placing {
+    let mut placing = genuine(random);
+    if random.once_in(4) {
+        return placing;
+    }
+    forge(random, &mut placing);
+    if random.once_in(8) {
+        forge(random, &mut placing);
+    }
+    placing
+}
+
+/// An opened placing after some of its steps.
+fn genuine(random: &mut Random) -> Placing {
+    let (populations, house) = problem::problem(random);
+    let mut placing = open(&populations, house).expect("a sound problem");
+    let gap = placing.total.abs_diff(house);
+    let steps = match random.below(3) {
+        0 => gap,
+        _ => random.below(gap + 1),
+    };
+    for _ in 0..steps {
+        placing = placing.step().0;
+    }
+    placing
+}
+
+/// Alters one thing that makes a placing foreign, most of the time.
+fn forge(random: &mut Random, placing: &mut Placing) {
+    let n = (placing.states as usize).clamp(1, 250);
+    let (i, j) = (
+        random.below(n as u64) as usize,
+        random.below(n as u64) as usize,
+    );
+    match random.below(19) {
+        0 => placing.total = placing.total.wrapping_add(1),
+        1 => placing.total = placing.total.wrapping_sub(1),
+        2 => placing.steps = placing.steps.wrapping_add(random.from(1, 3)),
+        3 => placing.steps = placing.steps.wrapping_sub(1),
+        4 => placing.steps = random.wild(),
+        5 => placing.total = placing.house,
+        6 => swap_equal_states(placing, n),
+        7 => placing.seats.swap(i, j),
+        8 => {
+            placing.seats[i] = placing.seats[i].wrapping_add(1);
+            placing.seats[j] = placing.seats[j].wrapping_sub(1);
+        }
+        9 => placing.seats[i] = random.wild(),
+        10 => placing.populations[i] = random.wild(),
+        11 => placing.populations.swap(i, j),
+        12 => placing.house = random.wild(),
+        13 => placing.house = placing.house.wrapping_add(1),
+        14 => placing.states = random.pick(&[0, 251, 252, 300, 1 << 32, u64::MAX]),
+        15 => placing.states = placing.states.wrapping_add(random.pick(&[1, u64::MAX])),
+        16 => {
+            let past = random.from(n as u64 - 1, 249) as usize;
+            let list = random.pick(&[0, 1]);
+            let junk = random.wild();
+            [&mut placing.seats, &mut placing.populations][list][past] ^= junk;
+        }
+        17 => feign(random, placing),
+        _ => *placing = all(random.pick(&[0, 0, 1, u64::MAX])),
+    }
+}
+
+/// The same number in every place.
+fn all(number: u64) -> Placing {
+    Placing {
+        states: number,
+        house: number,
+        total: number,
+        steps: number,
+        populations: [number; 250],
+        seats: [number; 250],
+    }
+}
+
+/// Swaps the seats of two states with equal populations and different seats, if there are two.
+fn swap_equal_states(placing: &mut Placing, n: usize) {
+    for i in 0..n {
+        for j in i + 1..n {
+            let equal = placing.populations[i] == placing.populations[j];
+            if equal && placing.seats[i] != placing.seats[j] {
+                placing.seats.swap(i, j);
+                return;
+            }
+        }
+    }
+}
+
+/// A seat moved to or from a state of chance, with total and steps to suit.
+fn feign(random: &mut Random, placing: &mut Placing) {
+    let i = random.below(placing.states.clamp(1, 250)) as usize;
+    let step = if placing.total < placing.house {
+        1
+    } else {
+        u64::MAX
+    };
+    placing.seats[i] = placing.seats[i].wrapping_add(step);
+    placing.total = placing.total.wrapping_add(step);
+    placing.steps = placing.steps.wrapping_add(1);
+}

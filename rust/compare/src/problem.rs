@@ -1,0 +1,132 @@
+//! Sound problems for allotting: populations and a house, with a liking for equal departures,
+//! equal quotients and the limits.
+
+use crate::random::Random;
+
+const SUM_LIMIT: u64 = 4_294_967_295;
+
+/// A number of states: mostly few, at times many or the limit.
+pub fn states(random: &mut Random) -> u64 {
+    match random.below(50) {
+        0 => random.pick(&[249, 250]),
+        1..=3 => random.from(1, 250),
+        4..=15 => random.from(1, 40),
+        _ => random.from(1, 7),
+    }
+}
+
+/// Populations and a house between the limits, the house not below the number of states.
+pub fn problem(random: &mut Random) -> (Vec<u64>, u64) {
+    if random.once_in(6) {
+        return equally_near(random);
+    }
+    let n = states(random);
+    let populations = populations(random, n);
+    let house = house(random, n);
+    (populations, house)
+}
+
+/// A house not below the number of states: mostly near it, at times large or the limit.
+fn house(random: &mut Random, n: u64) -> u64 {
+    match random.below(40) {
+        0 => 9_999,
+        1 | 2 => random.from(n, 9_999),
+        3..=5 => random.from(n, n + 500),
+        6..=9 => n + random.below(2),
+        _ => random.from(n, 4 * n + 3),
+    }
+}
+
+/// Populations of one of several makes.
+pub fn populations(random: &mut Random, n: u64) -> Vec<u64> {
+    let each = |random: &mut Random, make: &mut dyn FnMut(&mut Random) -> u64| -> Vec<u64> {
+        (0..n).map(|_| make(random)).collect()
+    };
+    match random.below(9) {
+        0 => each(random, &mut |r| r.from(1, 4)),
+        1 => each(random, &mut |r| r.from(1, 30)),
+        2 => {
+            let one = random.from(1, SUM_LIMIT / n);
+            each(random, &mut |_| one)
+        }
+        3 => {
+            let unit = random.bits(20);
+            each(random, &mut |r| (unit + 1) * r.from(1, 6))
+        }
+        4 => each(random, &mut |r| 1 + r.bits(24)),
+        5 => signposts(random, n),
+        6 => {
+            let mut list = each(random, &mut |r| 1 + r.bits(24));
+            raise_to(random, &mut list, SUM_LIMIT);
+            list
+        }
+        7 => {
+            let mut list = each(random, &mut |r| r.from(1, 2));
+            let sum = random.from(2 * n, SUM_LIMIT);
+            raise_to(random, &mut list, sum);
+            list
+        }
+        _ => {
+            let mut list = each(random, &mut |r| {
+                r.pick(&[84, 105, 126, 133, 140, 210, 238, 252])
+            });
+            let factor = random.from(1, 1_000);
+            list.iter_mut().for_each(|p| *p *= factor);
+            list
+        }
+    }
+}
+
+/// Raises one population so that the sum is a given one, if it is not larger already.
+fn raise_to(random: &mut Random, list: &mut [u64], sum: u64) {
+    let at = random.place(list);
+    list[at] += sum.saturating_sub(list.iter().sum());
+}
+
+/// Populations at the signposts of one divisor method, so that quotients of different states are
+/// equal at different seats.
+fn signposts(random: &mut Random, n: u64) -> Vec<u64> {
+    // Counts s with a(a + 1) = 2s² at a of 1, 8, 49, 288: Hill's quotients are equal there.
+    const HILL: [u64; 4] = [1, 6, 35, 204];
+    let row = random.below(5);
+    let factor = random.from(1, 40);
+    let mut signpost = || {
+        let a = random.from(1, 6);
+        match row {
+            0 => a,
+            1 => 45_045 * 2 * a * (a + 1) / (2 * a + 1),
+            2 => random.pick(&HILL),
+            3 => 2 * a + 1,
+            _ => 10 * a,
+        }
+    };
+    (0..n).map(|_| signpost() * factor).collect()
+}
+
+/// States whose population is as near to one number of seats as to the next, and one more that
+/// makes the average whole; the house is off its natural size at times.
+fn equally_near(random: &mut Random) -> (Vec<u64>, u64) {
+    const UNIT: u64 = 45_045; // divided by 3, 5, 7, 9, 11 and 13
+    let count = random.from(1, 6);
+    let mut populations: Vec<u64> = (0..count)
+        .map(|_| {
+            let a = random.from(1, 6);
+            match random.below(5) {
+                0 => UNIT * a,
+                1 => UNIT * a + UNIT / 9,
+                _ => UNIT * 2 * a * (a + 1) / (2 * a + 1),
+            }
+        })
+        .collect();
+    let sum: u64 = populations.iter().sum();
+    let at = random.below(count + 1) as usize;
+    populations.insert(at, UNIT - sum % UNIT + UNIT * random.below(2));
+    let natural = populations.iter().sum::<u64>() / UNIT;
+    let n = populations.len() as u64;
+    let house = match random.below(4) {
+        0 => natural + 1,
+        1 => natural.saturating_sub(1),
+        _ => natural,
+    };
+    (populations, house.max(n))
+}

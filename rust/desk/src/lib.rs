@@ -1,0 +1,250 @@
+//! The proved allotment desk, called from Rust: it reads a register of states, allots a house by
+//! one of seven methods, shows leximin's work seat by seat and writes a listing. Every function
+//! here is a thin safe wrapper over the C interface in [`ffi`].
+//!
+//! ```
+//! let register = b"register,leximin,3,2\nNorth,100\nSouth,200\ntotal,300\n";
+//!
+//! let listing = desk::listing(register).unwrap();
+//! assert_eq!(
+//!     String::from_utf8(listing).unwrap(),
+//!     "allotment,leximin,3,2\nNorth,100,1,0.00,in\nSouth,200,2,0.00,in\ntotal,300,3\n"
+//! );
+//!
+//! // The same seats without a register.
+//! let mut seats = [0; 2];
+//! desk::allot(desk::Method::Leximin, 3, &[100, 200], &mut seats).unwrap();
+//! assert_eq!(seats, [1, 2]);
+//!
+//! // A refusal has document 01's number and the line at fault.
+//! let refusal = desk::read(b"register,leximin,3,2\nNorth,100\n").unwrap_err();
+//! assert_eq!((refusal.number, refusal.line), (2, 3));
+//! ```
+
+pub mod ffi;
+
+/// The most states a register may have.
+pub const STATES_LIMIT: usize = 250;
+/// Room for any listing.
+pub const LISTING_ROOM: usize = 16_052;
+
+/// Why an operation was refused: document 01's number, and the line of the register counted from
+/// 1, or 0 where no line applies.
+#[derive(Clone, Copy, Debug, PartialEq, Eq)]
+pub struct Refusal {
+    pub number: u64,
+    pub line: u64,
+}
+
+impl std::fmt::Display for Refusal {
+    fn fmt(&self, f: &mut std::fmt::Formatter) -> std::fmt::Result {
+        write!(f, "refused,{},{}", self.number, self.line)
+    }
+}
+
+impl std::error::Error for Refusal {}
+
+/// A refusal if the number says there was one.
+fn outcome(number: u64, line: u64) -> Result<(), Refusal> {
+    match number {
+        0 => Ok(()),
+        _ => Err(Refusal { number, line }),
+    }
+}
+
+/// The seven methods, in the order of their numbers.
+#[derive(Clone, Copy, Debug, PartialEq, Eq)]
+pub enum Method {
+    Leximin,
+    Adams,
+    Dean,
+    Hill,
+    Webster,
+    Jefferson,
+    Remainders,
+}
+
+impl Method {
+    pub const ALL: [Method; 7] = [
+        Method::Leximin,
+        Method::Adams,
+        Method::Dean,
+        Method::Hill,
+        Method::Webster,
+        Method::Jefferson,
+        Method::Remainders,
+    ];
+}
+
+/// A register as read.
+#[derive(Clone, Debug, PartialEq, Eq)]
+pub struct Register(ffi::Reading);
+
+/// Reads a register, or says which line is at fault: refusals 1 to 7.
+pub fn read(bytes: &[u8]) -> Result<Register, Refusal> {
+    // SAFETY: pointer and length are those of one slice, which is only read.
+    let reading = unsafe { ffi::desk_read(bytes.as_ptr(), bytes.len()) };
+    outcome(reading.refusal, reading.line)?;
+    Ok(Register(reading))
+}
+
+impl Register {
+    pub fn method(&self) -> Method {
+        Method::ALL[self.0.method as usize]
+    }
+
+    pub fn house(&self) -> u64 {
+        self.0.house
+    }
+
+    /// The sum of the populations.
+    pub fn total(&self) -> u64 {
+        self.0.total
+    }
+
+    /// The populations in register order.
+    pub fn populations(&self) -> &[u64] {
+        &self.0.populations[..self.0.states as usize]
+    }
+}
+
+/// The name of the state with a given place, counted from 0: reading's refusals, then 40 for a
+/// place not below the number of states.
+pub fn name(bytes: &[u8], place: usize) -> Result<&[u8], Refusal> {
+    // SAFETY: pointer and length are those of one slice, which is only read.
+    let part = unsafe { ffi::desk_name(bytes.as_ptr(), bytes.len(), place) };
+    outcome(part.refusal, part.line)?;
+    Ok(&bytes[part.start as usize..][..part.length as usize])
+}
+
+/// Fills the lent list with each state's seats and hands back leximin's steps, 0 under the other
+/// methods: refusals 10 to 15, which leave the list as it was.
+pub fn allot(
+    method: Method,
+    house: u64,
+    populations: &[u64],
+    seats: &mut [u64],
+) -> Result<u64, Refusal> {
+    // SAFETY: each pointer stands with its own slice's length, and the two do not overlap.
+    let allotted = unsafe {
+        ffi::desk_allot(
+            method as u64,
+            house,
+            populations.as_ptr(),
+            populations.len(),
+            seats.as_mut_ptr(),
+            seats.len(),
+        )
+    };
+    outcome(allotted.refusal, 0)?;
+    Ok(allotted.steps)
+}
+
+/// Leximin's work, seat by seat: from each state's nearest seats, one step at a time, to the
+/// house.
+///
+/// ```
+/// let mut placing = desk::Placing::open(&[3, 3], 3).unwrap();
+/// assert_eq!(placing.seats(), [2, 2]);
+/// while placing.total() != placing.house() {
+///     let (next, outcome) = placing.step();
+///     outcome.unwrap();
+///     placing = next;
+/// }
+/// assert_eq!(placing.seats(), [2, 1]);
+/// assert_eq!(placing.steps(), 1);
+/// ```
+#[derive(Clone, Debug, PartialEq, Eq)]
+pub struct Placing(ffi::Placing);
+
+impl Placing {
+    /// Opens a placing: refusals 10 to 13 and 15.
+    pub fn open(populations: &[u64], house: u64) -> Result<Placing, Refusal> {
+        // SAFETY: pointer and length are those of one slice, which is only read.
+        let placed = unsafe { ffi::desk_open(populations.as_ptr(), populations.len(), house) };
+        outcome(placed.refusal, 0)?;
+        Ok(Placing(placed.placing))
+    }
+
+    /// Places or withdraws one seat: refusal 20 once the house is reached, with the placing as it
+    /// was. One that was opened and stepped here is never refused 21.
+    pub fn step(self) -> (Placing, Result<(), Refusal>) {
+        // SAFETY: the placing is handed over by value.
+        let placed = unsafe { ffi::desk_step(self.0) };
+        (Placing(placed.placing), outcome(placed.refusal, 0))
+    }
+
+    pub fn house(&self) -> u64 {
+        self.0.house
+    }
+
+    /// The seats placed in all.
+    pub fn total(&self) -> u64 {
+        self.0.total
+    }
+
+    /// The seats moved since opening.
+    pub fn steps(&self) -> u64 {
+        self.0.steps
+    }
+
+    pub fn populations(&self) -> &[u64] {
+        &self.0.populations[..self.0.states as usize]
+    }
+
+    pub fn seats(&self) -> &[u64] {
+        &self.0.seats[..self.0.states as usize]
+    }
+}
+
+/// How far a departure is from the average: up to 10 per cent, up to 15, beyond.
+#[derive(Clone, Copy, Debug, PartialEq, Eq)]
+pub enum Mark {
+    In,
+    High,
+    Over,
+}
+
+/// A departure as it is shown, in hundredths of a per cent, and the mark of its exact size.
+#[derive(Clone, Copy, Debug, PartialEq, Eq)]
+pub struct Departure {
+    pub hundredths: i64,
+    pub mark: Mark,
+}
+
+/// The departure of a state from the average total / house, none without seats: refusal 30
+/// outside the limits.
+pub fn departure(
+    population: u64,
+    seats: u64,
+    total: u64,
+    house: u64,
+) -> Result<Option<Departure>, Refusal> {
+    // SAFETY: numbers alone are handed over.
+    let shown = unsafe { ffi::desk_departure(population, seats, total, house) };
+    outcome(shown.refusal, 0)?;
+    let mark = [Some(Mark::In), Some(Mark::High), Some(Mark::Over), None][shown.mark as usize];
+    Ok(mark.map(|mark| Departure {
+        hundredths: shown.hundredths,
+        mark,
+    }))
+}
+
+/// Writes the listing of a register at the front of a lent buffer and hands back its length:
+/// refusals of reading and of allotting, then 31 if it is longer than the buffer. Refused, the
+/// buffer is left as it was.
+pub fn write_listing(bytes: &[u8], out: &mut [u8]) -> Result<usize, Refusal> {
+    // SAFETY: each pointer stands with its own slice's length, and the two do not overlap.
+    let written =
+        unsafe { ffi::desk_listing(bytes.as_ptr(), bytes.len(), out.as_mut_ptr(), out.len()) };
+    outcome(written.refusal, written.line)?;
+    Ok(written.length as usize)
+}
+
+/// The listing of a register.
+pub fn listing(bytes: &[u8]) -> Result<Vec<u8>, Refusal> {
+    let mut out = vec![0; LISTING_ROOM];
+    let length = write_listing(bytes, &mut out)?;
+    out.truncate(length);
+    Ok(out)
+}

@@ -1,0 +1,138 @@
+//! The library through its safe wrappers: the example registers and each kind of refusal. What it
+//! answers in general is left to the comparison with the reference.
+
+use desk::*;
+use std::fs;
+use std::mem::size_of;
+use std::path::PathBuf;
+
+fn example(file: &str) -> Vec<u8> {
+    let folder = PathBuf::from(env!("CARGO_MANIFEST_DIR")).join("../../examples");
+    fs::read(folder.join(file)).expect(file)
+}
+
+#[test]
+fn structures_have_the_sizes_of_the_header() {
+    assert_eq!(size_of::<ffi::Reading>(), 8 * 256);
+    assert_eq!(size_of::<ffi::Allotted>(), 8 * 2);
+    assert_eq!(size_of::<ffi::Placing>(), 8 * 504);
+    assert_eq!(size_of::<ffi::Placed>(), 8 * 505);
+    assert_eq!(size_of::<ffi::Shown>(), 8 * 3);
+    assert_eq!(size_of::<ffi::Written>(), 8 * 3);
+    assert_eq!(size_of::<ffi::Part>(), 8 * 4);
+}
+
+#[test]
+fn seats_are_those_of_the_tables() {
+    for file in [
+        "five-states",
+        "hungary-counties",
+        "hungary-regions",
+        "united-states",
+        "united-states-hill",
+    ] {
+        let bytes = example(&format!("{file}.register"));
+        let register = read(&bytes).unwrap();
+        let mut seats = vec![0; register.populations().len()];
+        allot(
+            register.method(),
+            register.house(),
+            register.populations(),
+            &mut seats,
+        )
+        .unwrap();
+        let mut printed = String::new();
+        for (place, a) in seats.iter().enumerate() {
+            let name = String::from_utf8_lossy(name(&bytes, place).unwrap());
+            printed += &format!("{name},{a}\n");
+        }
+        let expected = String::from_utf8(example(&format!("{file}.seats"))).unwrap();
+        assert_eq!(printed, expected, "{file}");
+        assert_eq!(
+            register.populations().iter().sum::<u64>(),
+            register.total(),
+            "{file}"
+        );
+    }
+}
+
+#[test]
+fn listings_are_those_beside_the_registers() {
+    for file in ["five-states", "cut-short", "false-total", "name-twice"] {
+        let printed = match listing(&example(&format!("{file}.register"))) {
+            Ok(listing) => listing,
+            Err(refusal) => format!("{refusal}\n").into_bytes(),
+        };
+        assert_eq!(printed, example(&format!("{file}.listing")), "{file}");
+    }
+}
+
+#[test]
+fn every_method_has_its_number() {
+    for (method, word) in Method::ALL.into_iter().zip([
+        "leximin",
+        "adams",
+        "dean",
+        "hill",
+        "webster",
+        "jefferson",
+        "remainders",
+    ]) {
+        let register = format!("register,{word},3,2\nA,1\nB,2\ntotal,3\n");
+        assert_eq!(read(register.as_bytes()).unwrap().method(), method);
+    }
+}
+
+#[test]
+fn refusals_leave_what_was_lent() {
+    let refused = |number, line| Refusal { number, line };
+    let mut seats = [7; 3];
+    assert_eq!(
+        allot(Method::Leximin, 2, &[5, 5, 5], &mut seats),
+        Err(refused(15, 0))
+    );
+    assert_eq!(seats, [7; 3]);
+    let mut out = [7; 10];
+    assert_eq!(
+        write_listing(&example("five-states.register"), &mut out),
+        Err(refused(31, 0))
+    );
+    assert_eq!(out, [7; 10]);
+    assert_eq!(
+        name(&example("five-states.register"), 5),
+        Err(refused(40, 0))
+    );
+    assert_eq!(read(b""), Err(refused(2, 1)));
+    assert_eq!(departure(1, 1, 0, 1), Err(refused(30, 0)));
+    assert_eq!(Placing::open(&[], 1), Err(refused(10, 0)));
+}
+
+#[test]
+fn stepping_ends_at_the_house() {
+    let mut placing = Placing::open(&[26, 27, 28, 29, 91], 20).unwrap();
+    assert_eq!((placing.total(), placing.steps()), (21, 0));
+    let (next, outcome) = placing.clone().step();
+    assert_eq!(outcome, Ok(()));
+    placing = next;
+    assert_eq!((placing.total(), placing.steps()), (20, 1));
+    assert_eq!(placing.seats(), [3, 3, 3, 3, 8]);
+    let (same, outcome) = placing.clone().step();
+    assert_eq!(
+        outcome,
+        Err(Refusal {
+            number: 20,
+            line: 0
+        })
+    );
+    assert_eq!(same, placing);
+}
+
+#[test]
+fn departures_are_shown_and_marked() {
+    let shown = |hundredths, mark| Ok(Some(Departure { hundredths, mark }));
+    assert_eq!(departure(11, 1, 20, 2), shown(1_000, Mark::In));
+    assert_eq!(departure(1_101, 1, 2_000, 2), shown(1_010, Mark::High));
+    assert_eq!(departure(115_004, 1, 200_000, 2), shown(1_500, Mark::Over));
+    assert_eq!(departure(26, 3, 201, 20), shown(-1_376, Mark::High));
+    assert_eq!(departure(1, 0, 100, 2), Ok(None));
+}

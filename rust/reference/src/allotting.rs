@@ -1,0 +1,171 @@
+//! Allotting a house by any of the seven methods: the divisor methods by a heap of claims,
+//! largest remainders by sorting, leximin by opening a placing and stepping to the house.
+
+use crate::{leximin, refusal, Method, Refusal, HOUSE_LIMIT, STATES_LIMIT, SUM_LIMIT};
+use std::cmp::{Ordering, Reverse};
+use std::collections::BinaryHeap;
+
+/// Fills the lent list with each state's seats and hands back the steps made
+/// (the gap from leximin's start to the house, 0 under the other methods).
+/// Refused, the list keeps its contents.
+pub fn allot(
+    method: Method,
+    house: u64,
+    populations: &[u64],
+    seats: &mut [u64],
+) -> Result<u64, Refusal> {
+    check_problem(populations, house)?;
+    if seats.len() != populations.len() {
+        return Err(refusal(14));
+    }
+    if method.seats_every_state() && house < populations.len() as u64 {
+        return Err(refusal(15));
+    }
+    let (allotted, steps) = match method {
+        Method::Leximin => leximin::allotted(populations, house),
+        Method::Remainders => (largest_remainders(populations, house), 0),
+        _ => (first_claims(method, populations, house), 0),
+    };
+    seats.copy_from_slice(&allotted);
+    Ok(steps)
+}
+
+/// The checks that allotting and opening share: 10, 11, 12, 13.
+pub fn check_problem(populations: &[u64], house: u64) -> Result<(), Refusal> {
+    if !(1..=STATES_LIMIT).contains(&populations.len()) {
+        return Err(refusal(10));
+    }
+    if !(1..=HOUSE_LIMIT).contains(&house) {
+        return Err(refusal(11));
+    }
+    if populations.contains(&0) {
+        return Err(refusal(12));
+    }
+    if populations.iter().map(|&p| p as u128).sum::<u128>() > SUM_LIMIT as u128 {
+        return Err(refusal(13));
+    }
+    Ok(())
+}
+
+/// A quotient p / d(a) as a fraction, squared under Hill. Where d(a) is 0 the lower number is 0,
+/// and cross-multiplication puts it above every other quotient and equal to its like.
+#[derive(Clone, Copy)]
+struct Quotient {
+    over: u128,
+    under: u128,
+}
+
+impl Quotient {
+    /// The quotient of a state of population p with a seats that wants one more.
+    fn of(method: Method, p: u64, a: u64) -> Quotient {
+        let (p, a) = (p as u128, a as u128);
+        let (over, under) = match method {
+            Method::Adams => (p, a),
+            Method::Dean => (p * (2 * a + 1), 2 * a * (a + 1)),
+            Method::Hill => (p * p, a * (a + 1)),
+            Method::Webster => (2 * p, 2 * a + 1),
+            Method::Jefferson => (p, a + 1),
+            Method::Leximin | Method::Remainders => unreachable!("not a divisor method"),
+        };
+        Quotient { over, under }
+    }
+}
+
+impl Ord for Quotient {
+    fn cmp(&self, other: &Self) -> Ordering {
+        (self.over * other.under).cmp(&(other.over * self.under))
+    }
+}
+
+impl PartialOrd for Quotient {
+    fn partial_cmp(&self, other: &Self) -> Option<Ordering> {
+        Some(self.cmp(other))
+    }
+}
+
+impl PartialEq for Quotient {
+    fn eq(&self, other: &Self) -> bool {
+        self.cmp(other) == Ordering::Equal
+    }
+}
+
+impl Eq for Quotient {}
+
+/// The first H claims, met one by one from nothing: larger quotients first, equal ones in
+/// register order.
+fn first_claims(method: Method, populations: &[u64], house: u64) -> Vec<u64> {
+    let mut seats = vec![0; populations.len()];
+    let claim = |i: usize, a: u64| (Quotient::of(method, populations[i], a), Reverse(i));
+    let mut claims: BinaryHeap<_> = (0..seats.len()).map(|i| claim(i, 0)).collect();
+    for _ in 0..house {
+        let (_, Reverse(i)) = claims.pop().expect("every state has a claim");
+        seats[i] += 1;
+        claims.push(claim(i, seats[i]));
+    }
+    seats
+}
+
+/// The whole part of p × H / P for each state; the seats left go one each to the largest
+/// remainders, equal ones in register order.
+fn largest_remainders(populations: &[u64], house: u64) -> Vec<u64> {
+    let sum: u64 = populations.iter().sum();
+    let mut seats: Vec<u64> = populations.iter().map(|p| p * house / sum).collect();
+    let left = house - seats.iter().sum::<u64>();
+    let mut order: Vec<usize> = (0..seats.len()).collect();
+    order.sort_by_key(|&i| Reverse(populations[i] * house % sum));
+    for &i in &order[..left as usize] {
+        seats[i] += 1;
+    }
+    seats
+}
+
+#[cfg(test)]
+mod tests {
+    use super::*;
+
+    /// The first H of all claims up to seat H, sorted outright.
+    fn sorted_claims(method: Method, populations: &[u64], house: u64) -> Vec<u64> {
+        let mut claims = Vec::new();
+        for (i, &p) in populations.iter().enumerate() {
+            for a in 0..house {
+                claims.push((Reverse(Quotient::of(method, p, a)), i));
+            }
+        }
+        claims.sort();
+        let mut seats = vec![0; populations.len()];
+        for (_, i) in &claims[..house as usize] {
+            seats[*i] += 1;
+        }
+        seats
+    }
+
+    #[test]
+    fn the_heap_meets_the_first_of_all_claims() {
+        use Method::*;
+        for code in 0..6u64.pow(4) {
+            let populations: Vec<u64> = (0..4).map(|k| 1 + code / 6u64.pow(k) % 6).collect();
+            for house in [1, 2, 5, 9] {
+                for method in [Adams, Dean, Hill, Webster, Jefferson] {
+                    assert_eq!(
+                        first_claims(method, &populations, house),
+                        sorted_claims(method, &populations, house),
+                        "{method:?} {populations:?} {house}"
+                    );
+                }
+            }
+        }
+    }
+
+    #[test]
+    fn quotients_past_64_bits_are_compared_exactly() {
+        // Squares of two counts that differ by 1 at the top of the range, by a(a + 1) past 9,998.
+        let large = Quotient::of(Method::Hill, 4_294_967_295, 9_998);
+        let less = Quotient::of(Method::Hill, 4_294_967_294, 9_998);
+        assert!(large > less);
+        assert!(large.over * less.under > u64::MAX as u128);
+        let large = Quotient::of(Method::Dean, 4_294_967_295, 9_998);
+        let less = Quotient::of(Method::Dean, 4_294_967_294, 9_998);
+        assert!(large > less);
+        assert!(large.over * less.under > u64::MAX as u128);
+    }
+}

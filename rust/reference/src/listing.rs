@@ -1,0 +1,35 @@
+//! The listing of a register's allotment.
+
+use crate::{allot, departure, mark_name, read, refusal, shown, Refusal};
+use std::io::Write;
+
+/// The listing for a register.
+pub fn listing(bytes: &[u8]) -> Result<Vec<u8>, Refusal> {
+    let register = read(bytes)?;
+    let (house, total, n) = (register.house, register.total, register.populations.len());
+    let mut seats = vec![0; n];
+    allot(register.method, house, &register.populations, &mut seats)?;
+
+    let written = "a list of bytes takes every byte";
+    let mut out = Vec::new();
+    let method = register.method.name();
+    writeln!(out, "allotment,{method},{house},{n}").expect(written);
+    for ((name, &p), &a) in register.names.iter().zip(&register.populations).zip(&seats) {
+        let departure = departure(p, a, total, house)?;
+        let hundredths = shown(departure.map(|(h, _)| h));
+        let mark = mark_name(departure.map(|(_, m)| m));
+        out.extend_from_slice(name);
+        writeln!(out, ",{p},{a},{hundredths},{mark}").expect(written);
+    }
+    writeln!(out, "total,{total},{}", seats.iter().sum::<u64>()).expect(written);
+    Ok(out)
+}
+
+/// Writes the listing into a lent buffer and hands back its length. Refused, the buffer keeps
+/// its contents, as do the bytes after the listing otherwise.
+pub fn write_listing(bytes: &[u8], out: &mut [u8]) -> Result<usize, Refusal> {
+    let listing = listing(bytes)?;
+    let room = out.get_mut(..listing.len()).ok_or(refusal(31))?;
+    room.copy_from_slice(&listing);
+    Ok(listing.len())
+}

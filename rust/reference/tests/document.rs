@@ -1,0 +1,394 @@
+//! The examples and traps of document 01, and the refusals it words, one test for each.
+
+use reference::Method::*;
+use reference::*;
+
+fn seats(method: Method, house: u64, populations: &[u64]) -> Vec<u64> {
+    let mut seats = vec![0; populations.len()];
+    allot(method, house, populations, &mut seats).unwrap();
+    seats
+}
+
+fn refused(register: &str) -> (u64, u64) {
+    let refusal = read(register.as_bytes()).expect_err(register);
+    (refusal.number, refusal.line)
+}
+
+/// A register whose states all have 1 voter.
+fn ones(method: &str, house: u64, count: usize) -> String {
+    let states: String = (0..count).map(|i| format!("s{i},1\n")).collect();
+    format!("register,{method},{house},{count}\n{states}total,{count}\n")
+}
+
+// ---- Allotments
+
+#[test]
+fn leximin() {
+    assert_eq!(seats(Leximin, 20, &[26, 27, 28, 29, 91]), [3, 3, 3, 3, 8]);
+    assert_eq!(seats(Leximin, 14, &[69, 70, 150]), [3, 3, 8]);
+    assert_eq!(seats(Leximin, 15, &[69, 70, 150]), [4, 4, 7]);
+    assert_eq!(seats(Leximin, 3, &[100, 200]), [1, 2]);
+    assert_eq!(seats(Leximin, 4, &[100, 200]), [1, 3]);
+    assert_eq!(seats(Leximin, 10, &[4, 13, 13]), [2, 4, 4]);
+    assert_eq!(
+        seats(Leximin, 10, &[10, 5, 5, 5, 5, 5, 5]),
+        [3, 2, 1, 1, 1, 1, 1]
+    );
+    assert_eq!(seats(Leximin, 2, &[1, 1000]), [1, 1]);
+    assert_eq!(seats(Leximin, 3, &[5, 5, 5]), [1, 1, 1]);
+    assert_eq!(seats(Leximin, 5, &[7]), [5]);
+    assert_eq!(seats(Leximin, 3, &[3, 3]), [2, 1]);
+}
+
+#[test]
+fn moves_that_raise_nothing_go_in_register_order() {
+    assert_eq!(seats(Leximin, 6, &[238, 140, 252]), [2, 2, 2]);
+    assert_eq!(seats(Leximin, 5, &[252, 140, 133]), [3, 1, 1]);
+    assert_eq!(seats(Leximin, 8, &[3, 5, 10]), [2, 2, 4]);
+}
+
+#[test]
+fn of_equal_withdrawals_the_later_state_gives_up() {
+    assert_eq!(open(&[1, 1, 2], 6).unwrap().seats[..3], [2, 2, 3]);
+    assert_eq!(seats(Leximin, 6, &[1, 1, 2]), [2, 1, 3]);
+}
+
+#[test]
+fn other_methods() {
+    assert_eq!(seats(Webster, 2, &[1, 99]), [0, 2]);
+    assert_eq!(seats(Adams, 2, &[1, 99]), [1, 1]);
+    assert_eq!(seats(Remainders, 2, &[1, 3]), [1, 1]);
+}
+
+#[test]
+fn steps_are_the_gap_under_leximin_and_0_otherwise() {
+    let mut seats = [0; 5];
+    let populations = [26, 27, 28, 29, 91];
+    let start = open(&populations, 20).unwrap();
+    let gap = start.total.abs_diff(20);
+    assert_eq!(allot(Leximin, 20, &populations, &mut seats), Ok(gap));
+    assert_ne!(gap, 0);
+    for method in &Method::ALL[1..] {
+        assert_eq!(allot(*method, 20, &populations, &mut seats), Ok(0));
+    }
+}
+
+#[test]
+fn allotting_is_refused_in_the_order_of_the_document() {
+    let refused = |method, house, populations: &[u64], room| {
+        let mut seats = vec![77; room];
+        let refusal = allot(method, house, populations, &mut seats).unwrap_err();
+        assert!(seats.iter().all(|&a| a == 77), "the lent list is untouched");
+        assert_eq!(refusal.line, 0);
+        refusal.number
+    };
+    assert_eq!(refused(Leximin, 0, &[], 1), 10);
+    assert_eq!(refused(Leximin, 0, &[0; 251], 1), 10);
+    assert_eq!(refused(Leximin, 0, &[0, u64::MAX], 1), 11);
+    assert_eq!(refused(Leximin, 10_000, &[0, u64::MAX], 1), 11);
+    assert_eq!(refused(Leximin, 1, &[u64::MAX, u64::MAX, 0], 1), 12);
+    assert_eq!(refused(Leximin, 1, &[u64::MAX, u64::MAX], 1), 13);
+    assert_eq!(refused(Leximin, 1, &[4_294_967_295, 1], 1), 13);
+    assert_eq!(refused(Leximin, 1, &[4_294_967_294, 1], 1), 14);
+    assert_eq!(refused(Leximin, 1, &[4_294_967_294, 1], 3), 14);
+    for method in [Leximin, Adams, Dean, Hill] {
+        assert_eq!(refused(method, 2, &[5, 5, 5], 3), 15);
+    }
+    for method in [Webster, Jefferson, Remainders] {
+        assert_eq!(seats(method, 2, &[5, 5, 5]), [1, 1, 0]);
+    }
+}
+
+// ---- The placing
+
+#[test]
+fn stepping_reaches_the_house_and_stays_there() {
+    let populations = [26, 27, 28, 29, 91];
+    let opened = open(&populations, 20).unwrap();
+    let gap = opened.total.abs_diff(20);
+    let mut placing = opened;
+    for k in 1..=gap + 3 {
+        let (next, outcome) = placing.step();
+        if k <= gap {
+            assert_eq!(outcome, Ok(()));
+            assert_eq!(next.steps, k);
+            assert_eq!(next.total.abs_diff(opened.total), k);
+        } else {
+            assert_eq!(outcome.unwrap_err().number, 20);
+            assert_eq!(next, placing);
+        }
+        placing = next;
+    }
+    assert_eq!(placing.seats[..5], [3, 3, 3, 3, 8]);
+}
+
+#[test]
+fn opening_is_refused_in_the_order_of_the_document() {
+    let refused = |populations: &[u64], house| open(populations, house).unwrap_err().number;
+    assert_eq!(refused(&[], 0), 10);
+    assert_eq!(refused(&[0; 251], 0), 10);
+    assert_eq!(refused(&[0], 10_000), 11);
+    assert_eq!(refused(&[u64::MAX, 0], 1), 12);
+    assert_eq!(refused(&[u64::MAX, 1], 1), 13);
+    assert_eq!(refused(&[5, 5, 5], 2), 15);
+}
+
+#[test]
+fn forged_placings_are_refused_21_and_come_back_as_they_were() {
+    let equal = open(&[3, 3], 3).unwrap();
+    let (at_house, outcome) = equal.step();
+    assert_eq!(outcome, Ok(()));
+    assert_eq!((at_house.total, at_house.steps), (3, 1));
+    type Edit = fn(&mut Placing);
+    let edits: [(&str, Edit); 12] = [
+        ("seats of equal states swapped", |p| p.seats.swap(0, 1)),
+        ("a wrong total", |p| p.total += 1),
+        ("no steps", |p| p.steps = 0),
+        ("overstated steps", |p| p.steps = 2),
+        ("steps past all bounds", |p| p.steps = u64::MAX),
+        ("a seat past its states", |p| p.seats[2] = 1),
+        ("a population past its states", |p| p.populations[249] = 1),
+        ("no states", |p| p.states = 0),
+        ("more states than the limit", |p| p.states = 251),
+        ("more states than a list can hold", |p| p.states = u64::MAX),
+        ("another house", |p| p.house = 4),
+        ("nothing at all", |p| {
+            *p = Placing {
+                states: 0,
+                house: 0,
+                total: 0,
+                steps: 0,
+                populations: [0; 250],
+                seats: [0; 250],
+            }
+        }),
+    ];
+    for (what, edit) in edits {
+        let mut forged = at_house;
+        edit(&mut forged);
+        let (back, outcome) = forged.step();
+        assert_eq!(outcome.map_err(|r| r.number), Err(21), "{what}");
+        assert_eq!(back, forged, "{what}");
+    }
+    assert_eq!(at_house.step().1.unwrap_err().number, 20);
+}
+
+// ---- Departures
+
+#[test]
+fn marks_come_from_the_exact_size() {
+    assert_eq!(departure(11, 1, 20, 2), Ok(Some((1000, Mark::In))));
+    assert_eq!(departure(1_101, 1, 2_000, 2), Ok(Some((1010, Mark::High))));
+    assert_eq!(
+        departure(115_004, 1, 200_000, 2),
+        Ok(Some((1500, Mark::Over)))
+    );
+    assert_eq!(departure(115, 1, 200, 2), Ok(Some((1500, Mark::High))));
+}
+
+#[test]
+fn halves_are_rounded_away_from_zero() {
+    let hundredths = |p, a, total, house| departure(p, a, total, house).unwrap().unwrap().0;
+    // p of 20,000 with a house of 1 departs by p / 2 - 10,000 hundredths.
+    assert_eq!(hundredths(19_999, 1, 20_000, 1), -1);
+    assert_eq!(hundredths(19_997, 1, 20_000, 1), -2);
+    assert_eq!(hundredths(10_001, 1, 20_000, 2), 1);
+    assert_eq!(hundredths(20_001, 1, 40_000, 2), 1);
+    assert_eq!(hundredths(40_001, 1, 80_000, 2), 0);
+    assert_eq!(hundredths(39_999, 1, 80_000, 2), 0);
+    assert_eq!(shown(Some(0)), "0.00");
+    assert_eq!(shown(Some(-1)), "-0.01");
+    assert_eq!(shown(Some(-110)), "-1.10");
+    assert_eq!(
+        hundredths(4_294_967_295, 1, 4_294_967_295, 9_999),
+        99_980_000
+    );
+    assert_eq!(shown(Some(99_980_000)), "999800.00");
+    assert_eq!(hundredths(1, 9_999, 4_294_967_295, 9_999), -10_000);
+}
+
+#[test]
+fn a_state_without_seats_shows_none() {
+    assert_eq!(departure(5, 0, 10, 3), Ok(None));
+    assert_eq!(shown(None), "none");
+    assert_eq!(
+        listing(b"register,webster,2,2\nA,1\nB,99\ntotal,100\n").unwrap(),
+        b"allotment,webster,2,2\nA,1,0,none,none\nB,99,2,-1.00,in\ntotal,100,2\n"
+    );
+}
+
+#[test]
+fn departure_is_refused_outside_the_limits() {
+    let refused = |p, a, total, house| departure(p, a, total, house).unwrap_err().number;
+    for (p, a, total, house) in [
+        (1, 0, 0, 1),
+        (0, 0, 1, 1),
+        (2, 1, 1, 1),
+        (1, 2, 1, 1),
+        (1, 1, 1, 0),
+        (1, 1, 1, 10_000),
+        (1, 1, 4_294_967_296, 1),
+        (u64::MAX, u64::MAX, u64::MAX, u64::MAX),
+    ] {
+        assert_eq!(refused(p, a, total, house), 30);
+    }
+}
+
+// ---- Reading
+
+#[test]
+fn a_register_is_read() {
+    let register = read(b"register,hill,0020,2\r\ntotal,007\nB b,8\r\ntotal,15\n").unwrap();
+    assert_eq!(register.method, Hill);
+    assert_eq!((register.house, register.total), (20, 15));
+    assert_eq!(register.names, [&b"total"[..], b"B b"]);
+    assert_eq!(register.populations, [7, 8]);
+}
+
+#[test]
+fn limits_of_the_document() {
+    assert!(read(ones("adams", 9_999, 250).as_bytes()).is_ok());
+    assert_eq!(refused(&ones("adams", 10_000, 250)), (3, 1));
+    assert_eq!(refused(&ones("adams", 9_999, 251)), (3, 1));
+    assert_eq!(refused(""), (2, 1));
+    assert_eq!(refused("register,hill,3,2\nA,1\nB,0\ntotal,9\n"), (3, 3));
+    assert_eq!(refused(&"x".repeat(65_536)), (2, 1));
+    assert_eq!(refused(&"x".repeat(65_537)), (1, 0));
+    let house_below_states = ones("leximin", 2, 3);
+    assert!(read(house_below_states.as_bytes()).is_ok());
+    let refusal = listing(house_below_states.as_bytes()).unwrap_err();
+    assert_eq!((refusal.number, refusal.line), (15, 0));
+}
+
+#[test]
+fn faults_of_the_head() {
+    assert_eq!(refused("register,hill,3"), (2, 1));
+    assert_eq!(refused("register,hill,3\n"), (2, 1));
+    assert_eq!(refused("Register,hill,3,1\n"), (2, 1));
+    assert_eq!(refused("register,,3,1\n"), (2, 1));
+    assert_eq!(refused("register,hi ll,3,1\n"), (2, 1));
+    assert_eq!(
+        refused(&format!("register,{},3,1\n", "h".repeat(33))),
+        (2, 1)
+    );
+    assert_eq!(
+        refused(&format!("register,{},3,1\n", "h".repeat(32))),
+        (4, 1)
+    );
+    assert_eq!(refused("register,Hill,3,1\n"), (4, 1));
+    assert_eq!(refused("register,hilly,0,0\n"), (4, 1));
+    assert_eq!(refused("register,hilly,x,1\n"), (2, 1));
+    assert_eq!(refused("register,hill,0,1\n"), (3, 1));
+    assert_eq!(refused("register,hill,3,0\n"), (3, 1));
+    assert_eq!(refused("register,hill,9999999999,1\n"), (3, 1));
+    assert_eq!(refused("register,hill,00000000003,1\n"), (2, 1));
+    assert_eq!(refused("register,hill,3,1\n"), (2, 2));
+    assert_eq!(refused("register,hill,3,1\r\r\n"), (2, 1));
+}
+
+#[test]
+fn faults_of_a_state() {
+    let state = |line: &str| refused(&format!("register,hill,3,2\nA,1\n{line}"));
+    for ill in [
+        "",
+        "\n",
+        "B\n",
+        ",1\n",
+        "B,\n",
+        "B,1",
+        " B,1\n",
+        "B ,1\n",
+        "B,1,\n",
+        "B,-1\n",
+        "B,+1\n",
+        "B\t,1\n",
+        "B\u{7f},1\n",
+        "B,1 \n",
+        "B,1\rx\n",
+        "A,00000000000\n",
+    ] {
+        assert_eq!(state(ill), (2, 3), "{ill:?}");
+    }
+    assert_eq!(state(&format!("{},1\n", "B".repeat(33))), (2, 3));
+    assert_eq!(state("A,0\n"), (3, 3));
+    assert_eq!(state("A,4294967296\n"), (3, 3));
+    assert_eq!(state("A,4294967295\n"), (5, 3));
+    assert_eq!(state("B,4294967295\n"), (6, 3));
+    assert_eq!(state("B,4294967294\n"), (2, 4));
+    assert_eq!(state("a,1\n"), (2, 4));
+    assert_eq!(state(&format!("{},1\n", "~".repeat(32))), (2, 4));
+}
+
+#[test]
+fn faults_of_the_closing_line_and_after_it() {
+    let closing = |lines: &str| refused(&format!("register,hill,3,1\nA,5\n{lines}"));
+    assert_eq!(closing("total,5"), (2, 3));
+    assert_eq!(closing("Total,5\n"), (2, 3));
+    assert_eq!(closing("total,5,\n"), (2, 3));
+    assert_eq!(closing("total,0\n"), (3, 3));
+    assert_eq!(closing("total,4294967296\n"), (3, 3));
+    assert_eq!(closing("total,4\n"), (7, 3));
+    assert_eq!(closing("total,5\n\n"), (2, 4));
+    assert_eq!(closing("total,5\nx"), (2, 4));
+    assert_eq!(closing("total,4\nx"), (7, 3));
+    // Too low a count reads a state line as the closing one, too high a count the other way.
+    assert_eq!(closing("B,5\ntotal,10\n"), (2, 3));
+    assert_eq!(closing("total,6\ntotal,11\n"), (7, 3));
+    assert_eq!(refused("register,hill,3,2\nA,5\ntotal,5\n"), (2, 4));
+}
+
+#[test]
+fn names_by_place() {
+    let bytes = b"register,hill,3,2\nA,5\nB c,6\ntotal,11\n";
+    assert_eq!(name(bytes, 0), Ok(&b"A"[..]));
+    assert_eq!(name(bytes, 1), Ok(&b"B c"[..]));
+    assert_eq!(
+        name(bytes, 2),
+        Err(Refusal {
+            number: 40,
+            line: 0
+        })
+    );
+    assert_eq!(
+        name(bytes, usize::MAX),
+        Err(Refusal {
+            number: 40,
+            line: 0
+        })
+    );
+    assert_eq!(name(b"", 7), Err(Refusal { number: 2, line: 1 }));
+}
+
+// ---- Listing
+
+#[test]
+fn a_listing_fits_exactly_or_is_refused_31() {
+    let register = b"register,remainders,2,2\nA,1\nB,3\ntotal,4\n";
+    let expected = listing(register).unwrap();
+    for room in 0..expected.len() + 3 {
+        let mut out = vec![0xEE; room];
+        let outcome = write_listing(register, &mut out);
+        if room < expected.len() {
+            assert_eq!(
+                outcome,
+                Err(Refusal {
+                    number: 31,
+                    line: 0
+                })
+            );
+            assert!(out.iter().all(|&b| b == 0xEE));
+        } else {
+            assert_eq!(outcome, Ok(expected.len()));
+            assert_eq!(out[..expected.len()], expected);
+            assert!(out[expected.len()..].iter().all(|&b| b == 0xEE));
+        }
+    }
+}
+
+#[test]
+fn a_listing_is_never_longer_than_16_052_bytes() {
+    let longest_head = "allotment,remainders,9999,250\n".len();
+    let longest_state = 32 + ",4294967295,9999,999800.00,high\n".len();
+    let longest_closing = "total,4294967295,9999\n".len();
+    assert_eq!(longest_head + 250 * longest_state + longest_closing, 16_052);
+}
