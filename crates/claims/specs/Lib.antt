@@ -4,6 +4,7 @@ pub mod Order
 pub mod StandingMoves
 pub mod StandingOrder
 pub mod Fractions
+pub mod MachineWords
 pub mod Standing
 pub mod DivisorClaims
 pub mod DivisorOrder

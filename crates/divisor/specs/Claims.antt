@@ -1,10 +1,10 @@
 -- Claims as the code holds them, in two machine words: what they are, how they are compared, and that they fit.
 -- Assumes nothing.
 use mathlib.Core.Bool.{Bool}
-use Prim.Native.Nat.{ℕ, _+_, _*_, _^_, _≤_}
+use Prim.Native.Nat.{ℕ, _+_, _*_, _≤_}
 use native.Mathlib.Omega.{arith}
-use native.Mathlib.Nat.{le-refl, mul-le-mul, lt-of-le-of-lt}
-use lib.Dec.{T, ltb, lit<}
+use native.Mathlib.Nat.{le-refl, mul-le-mul}
+use lib.Dec.{ltb}
 use mir.Syntax.{w64}
 use mir.Val.{Fits}
 use Rattle.apportionment.specs.Limits.{houseLimit, sumLimit}
@@ -12,6 +12,7 @@ use Rattle.apportionment.specs.Quantities.{Fraction}
 use Rattle.apportionment.specs.Divisor.{signpost, weightOf, claimOf}
 use Rattle.apportionment.specs.declared.Method.{Method}
 use Rattle.apportionment.specs.declared.Method.the-variants.{Leximin, Adams, Dean, Hill, Webster, Jefferson, Remainders}
+use Rattle.claims.specs.MachineWords.{product-fits}
 use Rattle.divisor.specs.declared.claim.Claim.{Claim}
 
 -- ---- claims
@@ -41,10 +42,6 @@ seatLimit = aimLimit + 1
 pub record Counted (p a : ℕ) : Type 0 where
   pub people : p ≤ sumLimit
   pub seats : a ≤ seatLimit
-
--- A product of numbers that two bounds hold fits a machine word if the bounds' product does.
-pub product-fits : (A B : ℕ) {x y : ℕ} → x ≤ A → y ≤ B → T (ltb (A * B) (2 ^ 64)) → Fits w64 (x * y)
-product-fits A B hx hy t = record { fits = lt-of-le-of-lt (mul-le-mul hx hy) (lit< t) }
 
 -- The denominator of a claim: at most the square of the largest sum for Hill, and far less for the others.
 pub claim-fits : (m : Method) {p a : ℕ} → Counted p a → Fits w64 (weightOf m p * signpost m a .under)

@@ -3,15 +3,13 @@
 use mathlib.Core.Path.{_≡_, refl, _∙_}
 use mathlib.Core.List.{List}
 use mathlib.Core.Bool.{Bool, true, false, cond}
-use Prim.Native.Nat.{ℕ, _+_, _*_, _/_, _^_, _<_, _≤_}
+use Prim.Native.Nat.{ℕ, _+_, _*_, _/_, _<_, _≤_}
 use native.Mathlib.Omega.{arith}
 use native.Mathlib.Numerals.{add-one}
-use native.Mathlib.Nat.{le-trans, lt-of-le-of-lt, mul-le-mul, mul-assoc, mul-lt-mul-of-pos-right, mul-le-mul-right, div-le-of-le-mul, lt-irrefl}
-use lib.Dec.{T, ltb, lit<}
+use native.Mathlib.Nat.{le-trans, mul-le-mul, mul-assoc, mul-lt-mul-of-pos-right, mul-le-mul-right, div-le-of-le-mul, lt-irrefl}
+use lib.Dec.{ltb}
 use lib.ListN.{length, getD, set}
 use lib.Seq.{getD-set-same, getD-set-other}
-use mir.Syntax.{w64}
-use mir.Val.{Fits}
 use borrow.Author.Count.{below-more}
 use borrow.Author.Tests.{lt-ltb, le-ltb, ltb-true, ltb-false}
 use Rattle.apportionment.specs.Limits.{houseLimit, sumLimit}
@@ -38,10 +36,6 @@ pub record Small (s : Size) : Type 0 where
 pub record SmallMove (m : Move) : Type 0 where
   pub old : Small (m .old)
   pub new : Small (m .new)
-
--- A product of numbers that two bounds hold fits a machine word if the bounds' product does.
-pub product-fits : (A B : ℕ) {x y : ℕ} → x ≤ A → y ≤ B → T (ltb (A * B) (2 ^ 64)) → Fits w64 (x * y)
-product-fits A B hx hy t = record { fits = lt-of-le-of-lt (mul-le-mul hx hy) (lit< t) }
 
 -- ---- sizes and claims
 

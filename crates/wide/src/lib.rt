@@ -1,6 +1,7 @@
 // The layer of wide products: products of two 64-bit numbers compared exactly, where one word cannot hold them.
 ghost use mathlib.Core.Path.{_≡_};
-ghost use Prim.Native.Nat.{_+_, _*_, _^_};
+ghost use mathlib.Core.Bool.{true};
+ghost use Prim.Native.Nat.{_+_, _*_, _^_, _<_};
 ghost use lib.Dec.{ltb};
 
 // Half a word: a number is split into two digits of base 2^32.
@@ -29,8 +30,8 @@ fn product(a: u64, b: u64) -> Wide
     }
 }
 
-// Is a * b less than c * d? Exactly, for every four numbers: no product is cut to a word.
-pub fn product_less(a: u64, b: u64, c: u64, d: u64) -> bool
+// a * b < c * d by whole products of two words each.
+fn wide_less(a: u64, b: u64, c: u64, d: u64) -> bool
     ensures { λ r. ⌜ r ≡ ltb (a * b) (c * d) ⌝ }
 {
     let left = product(a, b);
@@ -40,4 +41,27 @@ pub fn product_less(a: u64, b: u64, c: u64, d: u64) -> bool
     } else {
         left.high < right.high
     }
+}
+
+// Both are half words, so that one word holds their product. It says nothing where it answers false.
+fn in_one_word(a: u64, b: u64) -> bool
+    ensures { λ r. ⌜ (r ≡ true → a * b < 2 ^ 64) ⌝ }
+{
+    if a < HALF {
+        return b < HALF;
+    }
+    false
+}
+
+// Is a * b less than c * d? Exactly, for every four numbers: no product is cut to a word. Most claims have products of one word, which
+// are multiplied as they are.
+pub fn product_less(a: u64, b: u64, c: u64, d: u64) -> bool
+    ensures { λ r. ⌜ r ≡ ltb (a * b) (c * d) ⌝ }
+{
+    if in_one_word(a, b) {
+        if in_one_word(c, d) {
+            return a * b < c * d;
+        }
+    }
+    wide_less(a, b, c, d)
 }

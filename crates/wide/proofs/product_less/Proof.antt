@@ -1,30 +1,39 @@
--- `wide::product_less` is right because each product is its two words exactly, and their high words decide first.
+-- `wide::product_less` is right on one word because in_one_word says that both products fit, and otherwise by wide_less.
 -- Assumes nothing.
-use Prim.Native.Nat.{_^_}
+use native.Mathlib.Omega.{arith}
 use borrow.Author.Needs.{needs}
-use Rattle.wide.proofs.Digits.{high-words-decide, low-words-decide}
 use Rattle.wide.proofs.product_less.Statement.{statement}
 use Rattle.wide.proofs.product_less.Tie as tie
 
-product-requires : tie.Need-product-requires
-product-requires c κs = search needs
+in-one-word-requires : tie.Need-in-one-word-requires
+in-one-word-requires c κs = search needs
 
-product-requires-2 : tie.Need-product-requires-2
-product-requires-2 c κs = search needs
+in-one-word-requires-2 : tie.Need-in-one-word-requires-2
+in-one-word-requires-2 c κs = search needs
+
+mul-result : tie.Need-mul-result
+mul-result c = omega (arith, c .before .before .before .in-one-word .ensures (c .before .before .if1 .taken))
+
+mul-result-2 : tie.Need-mul-result-2
+mul-result-2 c = omega (arith, c .before .in-one-word2 .ensures (c .if2 .taken))
 
 returns : tie.Need-returns
-returns c =
-    let left = c .before .before .before .before .before .before .product .result in
-    let right = c .before .before .before .before .before .product2 .result in
-    cc (low-words-decide (2 ^ 64) (left .high) (left .low) (right .low))
+returns c = search needs
+
+wide-less-requires : tie.Need-wide-less-requires
+wide-less-requires c κs = search needs
 
 returns-2 : tie.Need-returns-2
-returns-2 c =
-    let left = c .before .before .before .before .before .before .product in
-    let right = c .before .before .before .before .before .product2 in
-    cc
-    (high-words-decide (2 ^ 64) (left .result .high) (right .result .high) (left .result .low) (right .result .low)
-    (c .before .before .before .before .struct-known .given .1 .0 .fits) (c .before .before .before .struct-known2 .given .1 .0 .fits) (c .before .before .if1 .left))
+returns-2 c = search needs
 
 pub product-less-spec : {M : Type 1} → statement M
-product-less-spec = tie.close (tie.spec product-requires product-requires-2 returns returns-2)
+product-less-spec =
+    tie.close
+    (tie.spec
+    in-one-word-requires
+    in-one-word-requires-2
+    mul-result
+    mul-result-2
+    returns
+    wide-less-requires
+    returns-2)

@@ -6,7 +6,8 @@ use native.Mathlib.Nat.{le-trans}
 use borrow.Author.Needs.{needs}
 use Rattle.apportionment.specs.Limits.{sumLimit}
 use Rattle.claims.specs.DivisorClaims.{rounded}
-use Rattle.divisor.specs.Claims.{aimLimit, product-fits}
+use Rattle.claims.specs.MachineWords.{product-fits}
+use Rattle.divisor.specs.Claims.{aimLimit}
 use Rattle.divisor.specs.Rounding.{whole-at-most, whole-counted, average-test}
 use Rattle.divisor.proofs.rounding.rounded_of.Statement.{statement}
 use Rattle.divisor.proofs.rounding.rounded_of.Tie as tie

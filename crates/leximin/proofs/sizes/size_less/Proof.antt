@@ -2,7 +2,8 @@
 -- Assumes nothing.
 use borrow.Author.Needs.{needs}
 use Rattle.apportionment.specs.Limits.{houseLimit, sumLimit}
-use Rattle.leximin.specs.Sizes.{lessSize, product-fits}
+use Rattle.claims.specs.MachineWords.{product-fits}
+use Rattle.leximin.specs.Sizes.{lessSize}
 use Prim.Native.Nat.{_+_, _*_}
 use Rattle.leximin.proofs.sizes.size_less.Statement.{statement}
 use Rattle.leximin.proofs.sizes.size_less.Tie as tie

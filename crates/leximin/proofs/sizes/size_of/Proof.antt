@@ -2,7 +2,7 @@
 -- Assumes nothing.
 use Rattle.leximin.specs.Sizes.{size-is}
 use Rattle.apportionment.specs.Limits.{houseLimit, sumLimit}
-use Rattle.leximin.specs.Sizes.{product-fits}
+use Rattle.claims.specs.MachineWords.{product-fits}
 use native.Mathlib.Nat.{le-trans}
 use Prim.Native.Nat.{_+_}
 use borrow.Author.Needs.{needs}
