@@ -1,6 +1,8 @@
 //! Times the proved desk and the plain reference on the same inputs in one run and prints two
-//! Markdown tables: the library's time over the reference's, and the library's own times.
-//! Build it with `--release`.
+//! Markdown tables: the library's time over the reference's, and the library's own times. With the
+//! word `programs` it times whole programs at the limits instead. Build it with `--release`.
+
+mod programs;
 
 use std::hint::black_box;
 use std::time::{Duration, Instant};
@@ -34,6 +36,16 @@ struct Input {
 }
 
 fn main() {
+    match std::env::args().nth(1).as_deref() {
+        None => operations(),
+        Some("programs") => programs::time_them(&input(250, 9_999, 1).bytes),
+        Some("plain") => programs::be_plain(),
+        Some(_) => eprintln!("usage: bench [programs]"),
+    }
+}
+
+/// The tables of the operations.
+fn operations() {
     let mut shapes = Vec::new();
     for states in STATES {
         for house in HOUSES {
