@@ -78,6 +78,11 @@ pub record Bar (xs : List ℕ) (left bar : ℕ) : Type 0 where
   pub above : reaching xs (bar + 1) (length xs) ≤ left
   pub enough : left ≤ reaching xs bar (length xs)
 
+-- A standing with just as many states above it as seats are left is a bar.
+pub just-as-many : (xs : List ℕ) (left bar : ℕ) → reaching xs (bar + 1) (length xs) ≡ left → Bar xs left bar
+just-as-many xs left bar just =
+    record { above = omega arith; enough = omega (arith, falls xs bar (bar + 1) (length xs) (omega arith)) }
+
 -- What is asked of a search for a bar: no more seats are left than there are states, and no state stands above `top`.
 pub record Searchable (xs : List ℕ) (left top : ℕ) : Type 0 where
   pub few : left ≤ length xs

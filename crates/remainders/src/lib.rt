@@ -69,7 +69,7 @@ fn reaching(standings: &[u64], least: u64) -> u64
 }
 
 // The bar: a standing with at most `left` states above it, and at least as many at it or above. What lies between 0 and `top`, above
-// which no state stands, is halved until one number is left.
+// which no state stands, is halved until just `left` states stand above the middle, or one number is left.
 fn bar_of(standings: &[u64], left: u64, top: u64) -> u64
     requires { ⌜ Searchable (now standings) left top ⌝ }
     ensures { λ r. ⌜ Bar (now (standings .entry)) left r × (r ≤ top) ⌝ }
@@ -79,6 +79,9 @@ fn bar_of(standings: &[u64], left: u64, top: u64) -> u64
     while low < high {
         let middle = low + (high - low) / 2;
         let above = reaching(standings, middle + 1);
+        if above == left {
+            return middle;
+        }
         if above <= left {
             high = middle;
         } else {
