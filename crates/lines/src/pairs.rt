@@ -1,4 +1,5 @@
 // A line of two fields: a state's name and population, or `total` and the sum.
+use crate::marks;
 use apportionment::SUM_LIMIT;
 use apportionment::refusals;
 use fields::cut;
@@ -11,6 +12,7 @@ ghost use Prim.Native.Nat.{_≤_};
 ghost use Rattle.apportionment.specs.Limits.{sumLimit};
 ghost use Rattle.fields.specs.Grammar.{isNumber};
 ghost use Rattle.lines.specs.Lines.{nameAt, numberField, numberAt, isPair, isStateLine, isClosingLine, usedIn, stateRefusal, closingRefusal};
+ghost use Rattle.lines.specs.Fingerprints.{fingerprintsOf};
 
 // The name on the first line of what is left.
 pub fn name_at(s: &[u8]) -> &[u8]
@@ -75,9 +77,20 @@ fn used_in(k: usize, s: &[u8], name: &[u8]) -> bool
     false
 }
 
-// The refusal of a state's line after `k` others, which start at `first` and sum to `sum`.
-pub fn state_refusal(first: &[u8], k: usize, sum: u64, s: &[u8]) -> u64
-    requires { ⌜ sum ≤ sumLimit ⌝ }
+// Whether the name stands on one of the `k` lines from here on, whose names have the given fingerprints.
+fn is_used(k: usize, s: &[u8], prints: &[u32], name: &[u8]) -> bool
+    requires { ⌜ now prints ≡ fingerprintsOf k (now s) ⌝ }
+    ensures { λ r. ⌜ r ≡ usedIn k (now (s .entry)) (now (name .entry)) ⌝ }
+{
+    if !marks::holds(prints, marks::fingerprint(name)) {
+        return false;
+    }
+    used_in(k, s, name)
+}
+
+// The refusal of a state's line after `k` others, which start at `first`, sum to `sum` and have names of the given fingerprints.
+pub fn state_refusal(first: &[u8], k: usize, prints: &[u32], sum: u64, s: &[u8]) -> u64
+    requires { ⌜ (sum ≤ sumLimit) × (now prints ≡ fingerprintsOf k (now first)) ⌝ }
     ensures { λ r. ⌜ r ≡ stateRefusal (now (first .entry)) k sum (now (s .entry)) ⌝ }
 {
     if !is_state_line(s) {
@@ -87,7 +100,7 @@ pub fn state_refusal(first: &[u8], k: usize, sum: u64, s: &[u8]) -> u64
     if !numbers::within(p, SUM_LIMIT) {
         return refusals::NUMBER_OUT_OF_LIMITS;
     }
-    if used_in(k, first, name_at(s)) {
+    if is_used(k, first, prints, name_at(s)) {
         return refusals::NAME_USED;
     }
     if SUM_LIMIT < sum + p {

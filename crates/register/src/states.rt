@@ -5,6 +5,7 @@ use apportionment::STATE_LIMIT;
 use apportionment::refusals;
 use fields::cut;
 use lines::head::Head;
+use lines::marks;
 use lines::pairs;
 ghost use mathlib.Core.Path.{_≡_};
 ghost use Prim.Native.Nat.{_≤_};
@@ -66,16 +67,18 @@ pub fn read_states(head: Head, first: &[u8]) -> Reading
 {
     let n = head.states;
     let mut populations = [0u64; STATE_LIMIT];
+    let mut prints = [0u32; STATE_LIMIT];
     let mut sum: u64 = 0;
     let mut k: usize = 0;
     let mut t = first;
     while k < n {
-        let refusal = pairs::state_refusal(first, k, sum, t);
+        let refusal = pairs::state_refusal(first, k, &prints[..k], sum, t);
         if refusal != 0 {
             return refused(refusal, k as u64 + 2);
         }
         let p = pairs::number_at(t);
         populations[k] = p;
+        prints[k] = marks::fingerprint(pairs::name_at(t));
         sum += p;
         k += 1;
         let u = cut::rest(t);

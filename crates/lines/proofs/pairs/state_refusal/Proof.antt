@@ -12,18 +12,18 @@ use native.Mathlib.Omega.{arith}
 use Rattle.lines.proofs.pairs.state_refusal.Statement.{statement}
 use Rattle.lines.proofs.pairs.state_refusal.Tie as tie
 
-well-formed : (c : tie.Else1) → isStateLine (c .before .before .before .before .args .s .now) ≡ true
+well-formed : (c : tie.Else1) → isStateLine (c .before .before .before .before .before .args .s .now) ≡ true
 well-formed c = passed (c .before .is-state-line .ensures) (c .if1 .left)
 
 within-limit :
     (c : tie.Else2)
-    → within sumLimit (numberAt (c .before .before .before .before .before .before .before .args .s .now)) ≡ true
+    → within sumLimit (numberAt (c .before .before .before .before .before .before .before .before .args .s .now)) ≡ true
 within-limit c = rw (c .before .before .number-at .ensures) at (passed (c .before .within .ensures) (c .if2 .left))
 
 fresh :
     (c : tie.Else3)
-    → let a = c .before .before .before .before .before .before .before .before .before .before .args in usedIn (a .k) (a .first .now) (nameAt (a .s .now)) ≡ false
-fresh c = rw (c .before .before .name-at .ensures) at (sym (c .before .used-in .ensures) ∙ c .if3 .left)
+    → let a = c .before .before .before .before .before .before .before .before .before .before .before .args in usedIn (a .k) (a .first .now) (nameAt (a .s .now)) ≡ false
+fresh c = rw (c .before .before .name-at .ensures) at (sym (c .before .is-used .ensures) ∙ c .if3 .left)
 
 is-state-line-requires : tie.Need-is-state-line-requires
 is-state-line-requires c κs = search needs
@@ -49,8 +49,8 @@ returns-2 c =
 name-at-requires : tie.Need-name-at-requires
 name-at-requires c κs = search needs
 
-used-in-requires : tie.Need-used-in-requires
-used-in-requires c κs = search needs
+is-used-requires : tie.Need-is-used-requires
+is-used-requires c κs = search needs
 
 returns-3 : tie.Need-returns-3
 unfolding stateRefusal
@@ -58,7 +58,7 @@ returns-3 c =
     simp (
       well-formed (c .before .before .before .before .before .before),
       within-limit (c .before .before .before),
-      rw (c .before .before .name-at .ensures) at (sym (c .before .used-in .ensures) ∙ c .if3 .taken),
+      rw (c .before .before .name-at .ensures) at (sym (c .before .is-used .ensures) ∙ c .if3 .taken),
     )
 
 add-if4 : tie.Need-add-if4
@@ -99,7 +99,7 @@ state-refusal-spec =
     within-requires
     returns-2
     name-at-requires
-    used-in-requires
+    is-used-requires
     returns-3
     add-if4
     returns-4
