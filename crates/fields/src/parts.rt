@@ -1,9 +1,9 @@
 // Parts of a run of bytes.
 ghost use mathlib.Core.Path.{_≡_};
-ghost use Prim.Native.Nat.{_≤_};
-ghost use lib.ListN.{length, drop};
+ghost use Prim.Native.Nat.{_+_, _≤_};
+ghost use lib.ListN.{length, take, drop};
 ghost use Rattle.apportionment.specs.Lists.{sameList};
-ghost use Rattle.fields.specs.Parts.{placeOf, before, after, allBetween};
+ghost use Rattle.fields.specs.Parts.{placeOf, allBetween};
 
 // The place of the first byte `b`, or the length where there is none.
 pub fn place_of(s: &[u8], b: u8) -> usize
@@ -27,19 +27,19 @@ fn from(s: &[u8], a: usize) -> &[u8]
     &s[a..]
 }
 
-// What stands before the first byte `b`.
-pub fn before(s: &[u8], b: u8) -> &[u8]
-    ensures { λ r. ⌜ now r ≡ before b (now (s .entry)) ⌝ }
+// The bytes before place `e`.
+pub fn upto(s: &[u8], e: usize) -> &[u8]
+    requires { ⌜ e ≤ length (now s) ⌝ }
+    ensures { λ r. ⌜ now r ≡ take e (now (s .entry)) ⌝ }
 {
-    let e = place_of(s, b);
     &s[..e]
 }
 
-// What stands after the first byte `b`.
-pub fn after(s: &[u8], b: u8) -> &[u8]
-    ensures { λ r. ⌜ now r ≡ after b (now (s .entry)) ⌝ }
+// The bytes past place `e`; none where that is the end.
+pub fn past(s: &[u8], e: usize) -> &[u8]
+    requires { ⌜ e ≤ length (now s) ⌝ }
+    ensures { λ r. ⌜ now r ≡ drop (e + 1) (now (s .entry)) ⌝ }
 {
-    let e = place_of(s, b);
     if e < s.len() {
         return from(s, e + 1);
     }

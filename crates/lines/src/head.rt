@@ -7,7 +7,8 @@ use fields::numbers;
 use fields::parts;
 use fields::words;
 ghost use mathlib.Core.Path.{_≡_};
-ghost use Rattle.lines.specs.Lines.{methodField, houseField, countField, isHead, headRefused, headSays, headOf};
+ghost use Rattle.lines.specs.Lines.{headRefused, headSays, headOf};
+ghost use Rattle.lines.specs.Cut.{headFormed};
 
 // What line 1 says, or its refusal; 0 is no refusal. Refused, the rest is 0 and the method is leximin.
 pub struct Head {
@@ -17,41 +18,23 @@ pub struct Head {
     pub states: usize,
 }
 
-fn method_field(s: &[u8]) -> &[u8]
-    ensures { λ r. ⌜ now r ≡ methodField (now (s .entry)) ⌝ }
+// Whether a head of these parts is well-formed.
+fn is_head(ended: bool, word: &[u8], method: &[u8], house: &[u8], count: &[u8]) -> bool
+    ensures { λ r. ⌜ r ≡ headFormed ended (now (word .entry)) (now (method .entry)) (now (house .entry)) (now (count .entry)) ⌝ }
 {
-    cut::field(cut::fields_after(cut::line(s)))
-}
-
-fn house_field(s: &[u8]) -> &[u8]
-    ensures { λ r. ⌜ now r ≡ houseField (now (s .entry)) ⌝ }
-{
-    cut::field(cut::fields_after(cut::fields_after(cut::line(s))))
-}
-
-fn count_field(s: &[u8]) -> &[u8]
-    ensures { λ r. ⌜ now r ≡ countField (now (s .entry)) ⌝ }
-{
-    cut::fields_after(cut::fields_after(cut::fields_after(cut::line(s))))
-}
-
-// Whether the head is well-formed.
-fn is_head(s: &[u8]) -> bool
-    ensures { λ r. ⌜ r ≡ isHead (now (s .entry)) ⌝ }
-{
-    if !cut::is_ended(s) {
+    if !ended {
         return false;
     }
-    if !parts::same(cut::field(cut::line(s)), b"register") {
+    if !parts::same(word, b"register") {
         return false;
     }
-    if !words::is_method_field(method_field(s)) {
+    if !words::is_method_field(method) {
         return false;
     }
-    if !numbers::is_number(house_field(s)) {
+    if !numbers::is_number(house) {
         return false;
     }
-    numbers::is_number(count_field(s))
+    numbers::is_number(count)
 }
 
 fn refused(refusal: u64) -> Head
@@ -90,11 +73,23 @@ fn says(named: Named, house: u64, states: u64) -> Head
 pub fn read_head(s: &[u8]) -> Head
     ensures { λ r. ⌜ r ≡ headOf (now (s .entry)) ⌝ }
 {
-    if !is_head(s) {
+    let end = cut::line_end(s);
+    let line = cut::line_to(s, end);
+    let first = cut::field_end(line);
+    let word = cut::field_to(line, first);
+    let later = cut::fields_from(line, first);
+    let second = cut::field_end(later);
+    let method = cut::field_to(later, second);
+    let last = cut::fields_from(later, second);
+    let third = cut::field_end(last);
+    let house = cut::field_to(last, third);
+    let count = cut::fields_from(last, third);
+    if !is_head(cut::is_ended(s, end), word, method, house, count) {
         return refused(refusals::LINE_ILL_FORMED);
     }
-    let named = words::method_named(method_field(s));
-    let house = numbers::value(house_field(s));
-    let states = numbers::value(count_field(s));
-    says(named, house, states)
+    says(
+        words::method_named(method),
+        numbers::value(house),
+        numbers::value(count),
+    )
 }

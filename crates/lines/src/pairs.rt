@@ -7,12 +7,19 @@ use fields::numbers;
 use fields::parts;
 use fields::words;
 ghost use mathlib.Core.Path.{_≡_};
-ghost use mathlib.Core.Bool.{true};
 ghost use Prim.Native.Nat.{_≤_};
 ghost use Rattle.apportionment.specs.Limits.{sumLimit};
-ghost use Rattle.fields.specs.Grammar.{isNumber};
-ghost use Rattle.lines.specs.Lines.{nameAt, numberField, numberAt, isPair, isStateLine, isClosingLine, usedIn, stateRefusal, closingRefusal};
-ghost use Rattle.lines.specs.Fingerprints.{fingerprintsOf};
+ghost use Rattle.lines.specs.Lines.{nameAt, usedIn, closingRefusal};
+ghost use Rattle.lines.specs.Fingerprints.{fingerprintOf, fingerprintsOf};
+ghost use Rattle.lines.specs.Cut.{pairFormed, entryRefusal, lineRefused, stateLineOf};
+
+// What a state's line says: its refusal, or 0 and the population, the name's fingerprint and the place where the line ends.
+pub struct StateLine {
+    pub refusal: u64,
+    pub population: u64,
+    pub print: u32,
+    pub end: usize,
+}
 
 // The name on the first line of what is left.
 pub fn name_at(s: &[u8]) -> &[u8]
@@ -21,43 +28,17 @@ pub fn name_at(s: &[u8]) -> &[u8]
     cut::field(cut::line(s))
 }
 
-fn number_field(s: &[u8]) -> &[u8]
-    ensures { λ r. ⌜ now r ≡ numberField (now (s .entry)) ⌝ }
+// Whether a line is ended, its first field passes its own test, and a number follows.
+fn is_pair(ended: bool, passes: bool, digits: &[u8]) -> bool
+    ensures { λ r. ⌜ r ≡ pairFormed ended passes (now (digits .entry)) ⌝ }
 {
-    cut::fields_after(cut::line(s))
-}
-
-// The number on the first line of what is left.
-pub fn number_at(s: &[u8]) -> u64
-    requires { ⌜ isNumber (numberField (now s)) ≡ true ⌝ }
-    ensures { λ r. ⌜ r ≡ numberAt (now (s .entry)) ⌝ }
-{
-    numbers::value(number_field(s))
-}
-
-// Whether the line is ended, its first field passes its own test, and a number follows.
-fn is_pair(passes: bool, s: &[u8]) -> bool
-    ensures { λ r. ⌜ r ≡ isPair passes (now (s .entry)) ⌝ }
-{
-    if !cut::is_ended(s) {
+    if !ended {
         return false;
     }
     if !passes {
         return false;
     }
-    numbers::is_number(number_field(s))
-}
-
-fn is_state_line(s: &[u8]) -> bool
-    ensures { λ r. ⌜ r ≡ isStateLine (now (s .entry)) ⌝ }
-{
-    is_pair(words::is_name(name_at(s)), s)
-}
-
-fn is_closing_line(s: &[u8]) -> bool
-    ensures { λ r. ⌜ r ≡ isClosingLine (now (s .entry)) ⌝ }
-{
-    is_pair(parts::same(name_at(s), b"total"), s)
+    numbers::is_number(digits)
 }
 
 // Whether the name stands on one of the `k` lines from here on.
@@ -77,30 +58,34 @@ fn used_in(k: usize, s: &[u8], name: &[u8]) -> bool
     false
 }
 
-// Whether the name stands on one of the `k` lines from here on, whose names have the given fingerprints.
-fn is_used(k: usize, s: &[u8], prints: &[u32], name: &[u8]) -> bool
-    requires { ⌜ now prints ≡ fingerprintsOf k (now s) ⌝ }
+// Whether the name, whose fingerprint is `print`, stands on one of the `k` lines from here on, whose names have those of `prints`.
+fn is_used(k: usize, s: &[u8], prints: &[u32], name: &[u8], print: u32) -> bool
+    requires { ⌜ (now prints ≡ fingerprintsOf k (now s)) × (print ≡ fingerprintOf (now name)) ⌝ }
     ensures { λ r. ⌜ r ≡ usedIn k (now (s .entry)) (now (name .entry)) ⌝ }
 {
-    if !marks::holds(prints, marks::fingerprint(name)) {
+    if !marks::holds(prints, print) {
         return false;
     }
     used_in(k, s, name)
 }
 
-// The refusal of a state's line after `k` others, which start at `first`, sum to `sum` and have names of the given fingerprints.
-pub fn state_refusal(first: &[u8], k: usize, prints: &[u32], sum: u64, s: &[u8]) -> u64
-    requires { ⌜ (sum ≤ sumLimit) × (now prints ≡ fingerprintsOf k (now first)) ⌝ }
-    ensures { λ r. ⌜ r ≡ stateRefusal (now (first .entry)) k sum (now (s .entry)) ⌝ }
+// The refusal of a well-formed state's line, by its name and population, after the lines that `read_state` speaks of.
+fn entry_refusal(
+    first: &[u8],
+    k: usize,
+    prints: &[u32],
+    sum: u64,
+    name: &[u8],
+    print: u32,
+    p: u64,
+) -> u64
+    requires { ⌜ (sum ≤ sumLimit) × (now prints ≡ fingerprintsOf k (now first)) × (print ≡ fingerprintOf (now name)) ⌝ }
+    ensures { λ r. ⌜ r ≡ entryRefusal (now (first .entry)) k sum (now (name .entry)) p ⌝ }
 {
-    if !is_state_line(s) {
-        return refusals::LINE_ILL_FORMED;
-    }
-    let p = number_at(s);
     if !numbers::within(p, SUM_LIMIT) {
         return refusals::NUMBER_OUT_OF_LIMITS;
     }
-    if is_used(k, first, prints, name_at(s)) {
+    if is_used(k, first, prints, name, print) {
         return refusals::NAME_USED;
     }
     if SUM_LIMIT < sum + p {
@@ -109,14 +94,57 @@ pub fn state_refusal(first: &[u8], k: usize, prints: &[u32], sum: u64, s: &[u8])
     0
 }
 
+fn refused(refusal: u64) -> StateLine
+    ensures { λ r. ⌜ r ≡ lineRefused refusal ⌝ }
+{
+    StateLine {
+        refusal,
+        population: 0,
+        print: 0,
+        end: 0,
+    }
+}
+
+// Reads a state's line after `k` others, which start at `first`, sum to `sum` and have names with the fingerprints `prints`.
+pub fn read_state(first: &[u8], k: usize, prints: &[u32], sum: u64, s: &[u8]) -> StateLine
+    requires { ⌜ (sum ≤ sumLimit) × (now prints ≡ fingerprintsOf k (now first)) ⌝ }
+    ensures { λ r. ⌜ r ≡ stateLineOf (now (first .entry)) k sum (now (s .entry)) ⌝ }
+{
+    let end = cut::line_end(s);
+    let line = cut::line_to(s, end);
+    let comma = cut::field_end(line);
+    let name = cut::field_to(line, comma);
+    let digits = cut::fields_from(line, comma);
+    if !is_pair(cut::is_ended(s, end), words::is_name(name), digits) {
+        return refused(refusals::LINE_ILL_FORMED);
+    }
+    let population = numbers::value(digits);
+    let print = marks::fingerprint(name);
+    let refusal = entry_refusal(first, k, prints, sum, name, print, population);
+    if refusal != 0 {
+        return refused(refusal);
+    }
+    StateLine {
+        refusal: 0,
+        population,
+        print,
+        end,
+    }
+}
+
 // The refusal of the closing line after states that sum to `sum`.
 pub fn closing_refusal(sum: u64, s: &[u8]) -> u64
     ensures { λ r. ⌜ r ≡ closingRefusal sum (now (s .entry)) ⌝ }
 {
-    if !is_closing_line(s) {
+    let end = cut::line_end(s);
+    let line = cut::line_to(s, end);
+    let comma = cut::field_end(line);
+    let word = cut::field_to(line, comma);
+    let digits = cut::fields_from(line, comma);
+    if !is_pair(cut::is_ended(s, end), parts::same(word, b"total"), digits) {
         return refusals::LINE_ILL_FORMED;
     }
-    let total = number_at(s);
+    let total = numbers::value(digits);
     if !numbers::within(total, SUM_LIMIT) {
         return refusals::NUMBER_OUT_OF_LIMITS;
     }

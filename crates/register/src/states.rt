@@ -5,7 +5,6 @@ use apportionment::STATE_LIMIT;
 use apportionment::refusals;
 use fields::cut;
 use lines::head::Head;
-use lines::marks;
 use lines::pairs;
 ghost use mathlib.Core.Path.{_≡_};
 ghost use Prim.Native.Nat.{_≤_};
@@ -72,16 +71,16 @@ pub fn read_states(head: Head, first: &[u8]) -> Reading
     let mut k: usize = 0;
     let mut t = first;
     while k < n {
-        let refusal = pairs::state_refusal(first, k, &prints[..k], sum, t);
+        let line = pairs::read_state(first, k, &prints[..k], sum, t);
+        let refusal = line.refusal;
         if refusal != 0 {
             return refused(refusal, k as u64 + 2);
         }
-        let p = pairs::number_at(t);
-        populations[k] = p;
-        prints[k] = marks::fingerprint(pairs::name_at(t));
-        sum += p;
+        populations[k] = line.population;
+        prints[k] = line.print;
+        sum += line.population;
         k += 1;
-        let u = cut::rest(t);
+        let u = cut::rest_from(t, line.end);
         t = u;
     }
     close(head, sum, populations, t)

@@ -1,17 +1,14 @@
--- `is_ended` says whether `place_of` finds an LF before the end.
+-- A line has an end if it ends before the last byte is passed.
 -- Assumes nothing.
+use borrow.Author.Needs.{needs}
 use Rattle.fields.specs.Parts.{has}
 use Rattle.fields.specs.Grammar.{ended}
-use borrow.Author.Needs.{needs}
 use Rattle.fields.proofs.cut.is_ended.Statement.{statement}
 use Rattle.fields.proofs.cut.is_ended.Tie as tie
 
-place-of-requires : tie.Need-place-of-requires
-place-of-requires c κs = search needs
-
 returns : tie.Need-returns
 unfolding ended has
-returns c = rw (c .place-of .ensures)
+returns c = rw (c .pre)
 
 pub is-ended-spec : {M : Type 1} → statement M
-is-ended-spec = tie.close (tie.spec place-of-requires returns)
+is-ended-spec = tie.close (tie.spec returns)

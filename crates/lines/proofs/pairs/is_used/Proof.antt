@@ -7,14 +7,11 @@ use borrow.Author.Needs.{needs}
 use Rattle.lines.proofs.pairs.is_used.Statement.{statement}
 use Rattle.lines.proofs.pairs.is_used.Tie as tie
 
-fingerprint-requires : tie.Need-fingerprint-requires
-fingerprint-requires c κs = search needs
-
 holds-requires : tie.Need-holds-requires
 holds-requires c κs = search needs
 
 returns : tie.Need-returns
-returns c = sym (unused-without-fingerprint (c .before .before .before .before .before .before .args .k) (c .before .before .before .before .before .before .args .s .now) (c .before .before .before .before .before .before .args .name .now) (rw (c .before .before .fingerprint .ensures, (c .before .before .before .before .before .before .pre)) at (failed (c .before .holds .ensures) (c .if1 .taken))))
+returns c = sym (unused-without-fingerprint (c .before .before .before .before .before .args .k) (c .before .before .before .before .before .args .s .now) (c .before .before .before .before .before .args .name .now) (rw (c .before .before .before .before .before .pre .1, c .before .before .before .before .before .pre .0) at (failed (c .before .holds .ensures) (c .if1 .taken))))
 
 used-in-requires : tie.Need-used-in-requires
 used-in-requires c κs = search needs
@@ -23,5 +20,4 @@ returns-2 : tie.Need-returns-2
 returns-2 c = search needs
 
 pub is-used-spec : {M : Type 1} → statement M
-is-used-spec =
-    tie.close (tie.spec fingerprint-requires holds-requires returns used-in-requires returns-2)
+is-used-spec = tie.close (tie.spec holds-requires returns used-in-requires returns-2)
