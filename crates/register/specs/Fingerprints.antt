@@ -29,16 +29,17 @@ pub kept-none : (s : List ℕ) → Kept 0 s s (replicate stateLimit 0)
 unfolding linesAfter fingerprintsOf
 kept-none s = record { room = refl; here = refl; held = refl }
 
--- One line more.
-pub kept-more : (k : ℕ) (first s prints : List ℕ) → Kept k first s prints → k < stateLimit
-    → Kept (k + 1) first (restOf s) (set prints k (fingerprintOf (nameAt s)))
-kept-more k first s prints so inside = record {
-  room = length-set prints k (fingerprintOf (nameAt s)) ∙ so .room;
-  here = rw (add-one, lines-next k first, so .here);
+-- One line more, with the rest after it and its name's fingerprint.
+pub kept-more : (k : ℕ) (first s rest prints : List ℕ) (print : ℕ) → Kept k first s prints → k < stateLimit
+    → rest ≡ restOf s → print ≡ fingerprintOf (nameAt s) → Kept (k + 1) first rest (set prints k print)
+kept-more k first s rest prints print so inside after its = record {
+  room = length-set prints k print ∙ so .room;
+  here = rw (after, add-one, lines-next k first, so .here);
   held = rw (
     add-one,
-    take-suc-set prints k (fingerprintOf (nameAt s)) (omega (arith, so .room)),
+    take-suc-set prints k print (omega (arith, so .room)),
     so .held,
+    its,
     so .here,
     fingerprints-next k first,
   );

@@ -95,7 +95,7 @@ loop-less c = omega arith
 
 loop-again : tie.Need-loop-again Inv-loop μ-loop
 unfolding lineRead
-loop-again c = (omega arith, omega (arith, population-is (c .before .before), line-sound (c .before .before) .fits), rw (c .rest-from .ensures, line-is (c .before .before)) (kept-more (c .before .before .before .before .before .before .loop .k) _ _ _ (c .before .before .before .before .before .before .loop .inv .2) (omega (arith, (c .before .before .before .before .before .before .before .before .pre)))), c .before .before .before .before .before .before .loop .inv .3 ∙ states-passed _ _ _ (c .before .before .before .before .before .before .before .before .args .head .states - (c .before .before .before .before .before .before .loop .k + 1)) _ _ _ _ (omega arith) (good (c .before .before)) ∙ rw (population-is (c .before .before), c .rest-from .ensures))
+loop-again c = (omega arith, omega (arith, population-is (c .before .before), line-sound (c .before .before) .fits), kept-more _ _ _ _ _ _ (c .before .before .before .before .before .before .loop .inv .2) (omega (arith, (c .before .before .before .before .before .before .before .before .pre))) (c .rest-from .ensures) (ap (λ r. r .print) (line-is (c .before .before))), c .before .before .before .before .before .before .loop .inv .3 ∙ states-passed _ _ _ (c .before .before .before .before .before .before .before .before .args .head .states - (c .before .before .before .before .before .before .loop .k + 1)) _ _ _ _ (omega arith) (good (c .before .before)) ∙ rw (population-is (c .before .before), c .rest-from .ensures))
 
 close-requires : tie.Need-close-requires Inv-loop μ-loop
 close-requires c κs = (c .before .before .before .pre)
