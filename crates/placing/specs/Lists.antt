@@ -1,7 +1,7 @@
 -- Tests of the lists that a placing holds, and lists filled up with 0.
 -- Assumes nothing.
 use mathlib.Core.Path.{_≡_, refl, sym, _∙_, ap}
-use mathlib.Core.Bool.{Bool, true, false, false≢true, cond}
+use mathlib.Core.Bool.{Bool, true, false, false≢true, cond, _&&_}
 use mathlib.Core.List.{List, [], _∷_, _++_}
 use Prim.Native.Nat.{ℕ, zero, suc, _+_, _-_, _<_, _≤_}
 use native.Mathlib.Omega.{arith}
@@ -27,17 +27,20 @@ eachWithin limit (x ∷ xs) = cond (within limit x) (eachWithin limit xs) false
 
 -- ---- the tests, one place at a time
 
-pub zero-next : (xs : List ℕ) (i : ℕ) → i < length xs → getD xs i 0 ≡ 0 → allZero (drop i xs) ≡ allZero (drop (i + 1) xs)
+pub zeros-step : (clear : Bool) (xs : List ℕ) (i : ℕ) → i < length xs
+    → (clear && allZero (drop i xs)) ≡ ((clear && eqb (getD xs i 0) 0) && allZero (drop (i + 1) xs))
 unfolding allZero
-zero-next xs i h e = rw (drop-cons xs i 0 h, add-one, eq-eqb _ _ e)
+zeros-step false xs i h = refl
+zeros-step true xs i h = rw (drop-cons xs i 0 h, add-one) (by-test (eqb (getD xs i 0) 0))
+  where
+    by-test : (t : Bool) → cond t (allZero (drop (suc i) xs)) false ≡ (t && allZero (drop (suc i) xs))
+    by-test true = refl
+    by-test false = refl
 
-pub nonzero-found : (xs : List ℕ) (i : ℕ) → i < length xs → eqb (getD xs i 0) 0 ≡ false → allZero (drop i xs) ≡ false
+pub zeros-end : (clear : Bool) (xs : List ℕ) (i : ℕ) → length xs ≤ i → (clear && allZero (drop i xs)) ≡ clear
 unfolding allZero
-nonzero-found xs i h e = rw (drop-cons xs i 0 h, e)
-
-pub zeros-end : (xs : List ℕ) (i : ℕ) → length xs ≤ i → allZero (drop i xs) ≡ true
-unfolding allZero
-zeros-end xs i h = rw drop-of-length-le
+zeros-end true xs i h = rw drop-of-length-le
+zeros-end false xs i h = refl
 
 pub within-next : (limit : ℕ) (xs : List ℕ) (i : ℕ) → i < length xs → within limit (getD xs i 0) ≡ true
     → eachWithin limit (drop i xs) ≡ eachWithin limit (drop (i + 1) xs)

@@ -15,18 +15,17 @@ pub fn copy_into(from: &[u64], to: &mut [u64])
     }
 }
 
-// Every number from place n on is 0.
+// Every number from place n on is 0. It looks at all of them, so that the compiler can take several at a time.
 pub fn zeros_from(list: &[u64], n: usize) -> bool
     ensures { λ r. ⌜ r ≡ allZero (drop n (now (list .entry))) ⌝ }
 {
+    let mut clear = true;
     let mut i = n;
     while i < list.len() {
-        if list[i] != 0 {
-            return false;
-        }
+        clear = clear & (list[i] == 0);
         i += 1;
     }
-    true
+    clear
 }
 
 // Every number is at least 1 and at most the house.
