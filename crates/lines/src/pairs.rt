@@ -1,5 +1,6 @@
 // A line of two fields: a state's name and population, or `total` and the sum.
-use crate::marks;
+use crate::fingerprints::fingerprint;
+use crate::fingerprints::holds;
 use apportionment::SUM_LIMIT;
 use apportionment::refusals;
 use fields::cut;
@@ -63,7 +64,7 @@ fn is_used(k: usize, s: &[u8], prints: &[u32], name: &[u8], print: u32) -> bool
     requires { ⌜ (now prints ≡ fingerprintsOf k (now s)) × (print ≡ fingerprintOf (now name)) ⌝ }
     ensures { λ r. ⌜ r ≡ usedIn k (now (s .entry)) (now (name .entry)) ⌝ }
 {
-    if !marks::holds(prints, print) {
+    if !holds(prints, print) {
         return false;
     }
     used_in(k, s, name)
@@ -119,7 +120,7 @@ pub fn read_state(first: &[u8], k: usize, prints: &[u32], sum: u64, s: &[u8]) ->
         return refused(refusals::LINE_ILL_FORMED);
     }
     let population = numbers::value(digits);
-    let print = marks::fingerprint(name);
+    let print = fingerprint(name);
     let refusal = entry_refusal(first, k, prints, sum, name, print, population);
     if refusal != 0 {
         return refused(refusal);

@@ -1,6 +1,5 @@
 -- The first field stands before the first comma.
 -- Assumes nothing.
-use borrow.Author.Needs.{needs}
 use mathlib.Core.Path.{_∙_}
 use Rattle.fields.specs.Parts.{before, place-within}
 use Rattle.fields.specs.Grammar.{fieldOf}

@@ -1,6 +1,5 @@
 -- What follows the first field stands past the first comma.
 -- Assumes nothing.
-use borrow.Author.Needs.{needs}
 use mathlib.Core.Path.{_∙_}
 use Rattle.fields.specs.Parts.{after, place-within}
 use Rattle.fields.specs.Grammar.{fieldsAfter}

@@ -1,6 +1,5 @@
 -- A line has an end if it ends before the last byte is passed.
 -- Assumes nothing.
-use borrow.Author.Needs.{needs}
 use Rattle.fields.specs.Parts.{has}
 use Rattle.fields.specs.Grammar.{ended}
 use Rattle.fields.proofs.cut.is_ended.Statement.{statement}

@@ -1,6 +1,5 @@
 -- What is left after the first line stands past the first LF.
 -- Assumes nothing.
-use borrow.Author.Needs.{needs}
 use mathlib.Core.Path.{_∙_}
 use Rattle.fields.specs.Parts.{after, place-within}
 use Rattle.fields.specs.Grammar.{restOf}

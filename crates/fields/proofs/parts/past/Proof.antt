@@ -21,7 +21,10 @@ from-requires-2 : tie.Need-from-requires-2
 from-requires-2 c κs = search needs
 
 returns-2 : tie.Need-returns-2
-returns-2 c = c .from2 .ensures ∙ drop-of-length-le (c .before .before .before .args .s .now) (c .before .if1 .left) ∙ sym (drop-of-length-le (c .before .before .before .args .s .now) {i = c .before .before .before .args .e + 1} (omega arith))
+returns-2 c =
+    c .from2 .ensures
+    ∙ drop-of-length-le (c .before .before .before .args .s .now) (c .before .if1 .left)
+    ∙ sym (drop-of-length-le (c .before .before .before .args .s .now) {i = c .before .before .before .args .e + 1} (omega arith))
 
 pub past-spec : {M : Type 1} → statement M
 past-spec = tie.close (tie.spec add-from from-requires returns from-requires-2 returns-2)

@@ -19,28 +19,50 @@ same-requires c κs = search needs
 
 returns-2 : tie.Need-returns-2
 unfolding headFormed
-returns-2 c = simp (passed {r = c .before .before .before .before .before .before .before .before .args .ended} refl (c .before .before .before .if1 .left), failed (c .before .same .ensures) (c .if2 .taken))
+returns-2 c =
+    simp (
+      passed {r = c .before .before .before .before .before .before .before .before .args .ended} refl (c .before .before .before .if1 .left),
+      failed (c .before .same .ensures) (c .if2 .taken),
+    )
 
 is-method-field-requires : tie.Need-is-method-field-requires
 is-method-field-requires c κs = search needs
 
 returns-3 : tie.Need-returns-3
 unfolding headFormed
-returns-3 c = simp (passed {r = c .before .before .before .before .before .before .before .before .before .before .args .ended} refl (c .before .before .before .before .before .if1 .left), passed (c .before .before .before .same .ensures) (c .before .before .if2 .left), failed (c .before .is-method-field .ensures) (c .if3 .taken))
+returns-3 c =
+    simp (
+      passed {r = c .before .before .before .before .before .before .before .before .before .before .args .ended} refl (c .before .before .before .before .before .if1 .left),
+      passed (c .before .before .before .same .ensures) (c .before .before .if2 .left),
+      failed (c .before .is-method-field .ensures) (c .if3 .taken),
+    )
 
 is-number-requires : tie.Need-is-number-requires
 is-number-requires c κs = search needs
 
 returns-4 : tie.Need-returns-4
 unfolding headFormed
-returns-4 c = simp (passed {r = c .before .before .before .before .before .before .before .before .before .before .before .before .args .ended} refl (c .before .before .before .before .before .before .before .if1 .left), passed (c .before .before .before .before .before .same .ensures) (c .before .before .before .before .if2 .left), passed (c .before .before .before .is-method-field .ensures) (c .before .before .if3 .left), failed (c .before .is-number .ensures) (c .if4 .taken))
+returns-4 c =
+    simp (
+      passed {r = c .before .before .before .before .before .before .before .before .before .before .before .before .args .ended} refl (c .before .before .before .before .before .before .before .if1 .left),
+      passed (c .before .before .before .before .before .same .ensures) (c .before .before .before .before .if2 .left),
+      passed (c .before .before .before .is-method-field .ensures) (c .before .before .if3 .left),
+      failed (c .before .is-number .ensures) (c .if4 .taken),
+    )
 
 is-number-requires-2 : tie.Need-is-number-requires-2
 is-number-requires-2 c κs = search needs
 
 returns-5 : tie.Need-returns-5
 unfolding headFormed
-returns-5 c = simp (passed {r = c .before .before .before .before .before .before .before .before .before .before .before .before .before .args .ended} refl (c .before .before .before .before .before .before .before .before .if1 .left), passed (c .before .before .before .before .before .before .same .ensures) (c .before .before .before .before .before .if2 .left), passed (c .before .before .before .before .is-method-field .ensures) (c .before .before .before .if3 .left), passed (c .before .before .is-number .ensures) (c .before .if4 .left), c .is-number2 .ensures)
+returns-5 c =
+    simp (
+      passed {r = c .before .before .before .before .before .before .before .before .before .before .before .before .before .args .ended} refl (c .before .before .before .before .before .before .before .before .if1 .left),
+      passed (c .before .before .before .before .before .before .same .ensures) (c .before .before .before .before .before .if2 .left),
+      passed (c .before .before .before .before .is-method-field .ensures) (c .before .before .before .if3 .left),
+      passed (c .before .before .is-number .ensures) (c .before .if4 .left),
+      c .is-number2 .ensures,
+    )
 
 pub is-head-spec : {M : Type 1} → statement M
 is-head-spec =

@@ -10,11 +10,18 @@ use Rattle.lines.proofs.head.read_head.Statement.{statement}
 use Rattle.lines.proofs.head.read_head.Tie as tie
 
 word-is : (c : tie.After-fields-from3) → c .before .before .before .before .before .before .before .field-to .result .now ≡ fieldOf (lineOf (c .before .before .before .before .before .before .before .before .before .before .before .before .args .s .now))
-word-is c = c .before .before .before .before .before .before .before .field-to .ensures ∙ rw (c .before .before .before .before .before .before .before .before .before .line-to .ensures)
+word-is c =
+    c .before .before .before .before .before .before .before .field-to .ensures
+    ∙ rw (c .before .before .before .before .before .before .before .before .before .line-to .ensures)
 
 method-is : (c : tie.After-fields-from3) → c .before .before .before .before .field-to2 .result .now ≡ methodField (c .before .before .before .before .before .before .before .before .before .before .before .before .args .s .now)
 unfolding methodField
-method-is c = c .before .before .before .before .field-to2 .ensures ∙ rw (c .before .before .before .before .before .before .fields-from .ensures, c .before .before .before .before .before .before .before .before .before .line-to .ensures)
+method-is c =
+    c .before .before .before .before .field-to2 .ensures
+    ∙ rw (
+      c .before .before .before .before .before .before .fields-from .ensures,
+      c .before .before .before .before .before .before .before .before .before .line-to .ensures,
+    )
 
 house-is : (c : tie.After-fields-from3) → c .before .field-to3 .result .now ≡ houseField (c .before .before .before .before .before .before .before .before .before .before .before .before .args .s .now)
 unfolding houseField
@@ -84,17 +91,29 @@ method-named-requires : tie.Need-method-named-requires
 method-named-requires c κs = search needs
 
 value-requires : tie.Need-value-requires
-value-requires c κs = rw (house-is (c .before .before .before .before)) (head-numbers _ (passed (formed (c .before .before)) (c .before .if1 .left)) .0)
+value-requires c κs =
+    rw (house-is (c .before .before .before .before)) (head-numbers _ (passed (formed (c .before .before)) (c .before .if1 .left)) .0)
 
 value-requires-2 : tie.Need-value-requires-2
-value-requires-2 c κs = rw (count-is (c .before .before .before .before .before)) (head-numbers _ (passed (formed (c .before .before .before)) (c .before .before .if1 .left)) .1)
+value-requires-2 c κs =
+    rw (count-is (c .before .before .before .before .before)) (head-numbers _ (passed (formed (c .before .before .before)) (c .before .before .if1 .left)) .1)
 
 says-requires : tie.Need-says-requires
 says-requires c κs = search needs
 
 returns-2 : tie.Need-returns-2
 unfolding headOf
-returns-2 c = c .says .ensures ∙ simp (passed (formed (c .before .before .before .before .before)) (c .before .before .before .before .if1 .left), c .before .before .before .method-named .ensures, c .before .before .value .ensures, c .before .value2 .ensures, method-is (c .before .before .before .before .before .before .before), house-is (c .before .before .before .before .before .before .before), count-is (c .before .before .before .before .before .before .before))
+returns-2 c =
+    c .says .ensures
+    ∙ simp (
+      passed (formed (c .before .before .before .before .before)) (c .before .before .before .before .if1 .left),
+      c .before .before .before .method-named .ensures,
+      c .before .before .value .ensures,
+      c .before .value2 .ensures,
+      method-is (c .before .before .before .before .before .before .before),
+      house-is (c .before .before .before .before .before .before .before),
+      count-is (c .before .before .before .before .before .before .before),
+    )
 
 pub read-head-spec : {M : Type 1} → statement M
 read-head-spec =

@@ -60,22 +60,37 @@ unfolding closingRefusal
 returns c = simp (failed (formed (c .before)) (c .if1 .taken))
 
 value-requires : tie.Need-value-requires
-value-requires c κs = rw (digits-are (c .before .before .before .before .before)) (closing-number _ (passed (formed (c .before)) (c .if1 .left)))
+value-requires c κs =
+    rw (digits-are (c .before .before .before .before .before)) (closing-number _ (passed (formed (c .before)) (c .if1 .left)))
 
 within-requires : tie.Need-within-requires
 within-requires c κs = search needs
 
 returns-2 : tie.Need-returns-2
 unfolding closingRefusal
-returns-2 c = simp (passed (formed (c .before .before .before .before)) (c .before .before .before .if1 .left), rw (total-is (c .before .before)) at (failed (c .before .within .ensures) (c .if2 .taken)))
+returns-2 c =
+    simp (
+      passed (formed (c .before .before .before .before)) (c .before .before .before .if1 .left),
+      rw (total-is (c .before .before)) at (failed (c .before .within .ensures) (c .if2 .taken)),
+    )
 
 returns-3 : tie.Need-returns-3
 unfolding closingRefusal
-returns-3 c = simp (passed (formed (c .before .before .before .before .before)) (c .before .before .before .before .if1 .left), rw (total-is (c .before .before .before)) at (passed (c .before .before .within .ensures) (c .before .if2 .left)), rw (total-is (c .before .before .before)) at (ne-eqb _ _ (c .if3 .taken)))
+returns-3 c =
+    simp (
+      passed (formed (c .before .before .before .before .before)) (c .before .before .before .before .if1 .left),
+      rw (total-is (c .before .before .before)) at (passed (c .before .before .within .ensures) (c .before .if2 .left)),
+      rw (total-is (c .before .before .before)) at (ne-eqb _ _ (c .if3 .taken)),
+    )
 
 returns-4 : tie.Need-returns-4
 unfolding closingRefusal
-returns-4 c = simp (passed (formed (c .before .before .before .before .before)) (c .before .before .before .before .if1 .left), rw (total-is (c .before .before .before)) at (passed (c .before .before .within .ensures) (c .before .if2 .left)), rw (total-is (c .before .before .before)) at (eq-eqb _ _ (c .if3 .left)))
+returns-4 c =
+    simp (
+      passed (formed (c .before .before .before .before .before)) (c .before .before .before .before .if1 .left),
+      rw (total-is (c .before .before .before)) at (passed (c .before .before .within .ensures) (c .before .if2 .left)),
+      rw (total-is (c .before .before .before)) at (eq-eqb _ _ (c .if3 .left)),
+    )
 
 pub closing-refusal-spec : {M : Type 1} → statement M
 closing-refusal-spec =

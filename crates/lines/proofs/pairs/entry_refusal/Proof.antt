@@ -22,18 +22,36 @@ is-used-requires c κs = search needs
 
 returns-2 : tie.Need-returns-2
 unfolding entryRefusal
-returns-2 c = simp (passed (c .before .before .before .within .ensures) (c .before .before .if1 .left), sym (c .before .is-used .ensures) ∙ c .if2 .taken)
+returns-2 c =
+    simp (
+      passed (c .before .before .before .within .ensures) (c .before .before .if1 .left),
+      sym (c .before .is-used .ensures) ∙ c .if2 .taken,
+    )
 
 add-if3 : tie.Need-add-if3
-add-if3 c = omega (arith, within-limits sumLimit _ (passed (c .before .before .before .within .ensures) (c .before .before .if1 .left)))
+add-if3 c =
+    omega (
+      arith,
+      within-limits sumLimit _ (passed (c .before .before .before .within .ensures) (c .before .before .if1 .left)),
+    )
 
 returns-3 : tie.Need-returns-3
 unfolding entryRefusal
-returns-3 c = simp (passed (c .before .before .before .before .within .ensures) (c .before .before .before .if1 .left), sym (c .before .before .is-used .ensures) ∙ c .before .if2 .left, lt-leb _ _ (c .if3 .taken))
+returns-3 c =
+    simp (
+      passed (c .before .before .before .before .within .ensures) (c .before .before .before .if1 .left),
+      sym (c .before .before .is-used .ensures) ∙ c .before .if2 .left,
+      lt-leb _ _ (c .if3 .taken),
+    )
 
 returns-4 : tie.Need-returns-4
 unfolding entryRefusal
-returns-4 c = simp (passed (c .before .before .before .before .within .ensures) (c .before .before .before .if1 .left), sym (c .before .before .is-used .ensures) ∙ c .before .if2 .left, le-leb _ _ (c .if3 .left))
+returns-4 c =
+    simp (
+      passed (c .before .before .before .before .within .ensures) (c .before .before .before .if1 .left),
+      sym (c .before .before .is-used .ensures) ∙ c .before .if2 .left,
+      le-leb _ _ (c .if3 .left),
+    )
 
 pub entry-refusal-spec : {M : Type 1} → statement M
 entry-refusal-spec =

@@ -30,7 +30,9 @@ population-is c = c .value .ensures ∙ rw (digits-are (c .before .before .befor
 refusal-is :
     (c : tie.After-entry-refusal)
     → let a = c .before .before .before .before .before .before .before .before .before .before .before .before .before .before .before .args in c .entry-refusal .result ≡ entryRefusal (a .first .now) (a .k) (a .sum) (nameAt (a .s .now)) (numberAt (a .s .now))
-refusal-is c = c .entry-refusal .ensures ∙ rw (name-is (c .before .before .before .before .before .before .before), population-is (c .before .before))
+refusal-is c =
+    c .entry-refusal .ensures
+    ∙ rw (name-is (c .before .before .before .before .before .before .before), population-is (c .before .before))
 
 line-end-requires : tie.Need-line-end-requires
 line-end-requires c κs = search needs
@@ -60,10 +62,12 @@ refused-requires : tie.Need-refused-requires
 refused-requires c κs = search needs
 
 returns : tie.Need-returns
-returns c = c .refused .ensures ∙ sym (line-ill-formed _ _ _ _ (failed (formed (c .before .before)) (c .before .if1 .taken)))
+returns c =
+    c .refused .ensures ∙ sym (line-ill-formed _ _ _ _ (failed (formed (c .before .before)) (c .before .if1 .taken)))
 
 value-requires : tie.Need-value-requires
-value-requires c κs = rw (digits-are (c .before .before .before .before)) (state-parts _ (passed (formed (c .before)) (c .if1 .left)) .1)
+value-requires c κs =
+    rw (digits-are (c .before .before .before .before)) (state-parts _ (passed (formed (c .before)) (c .if1 .left)) .1)
 
 fingerprint-requires : tie.Need-fingerprint-requires
 fingerprint-requires c κs = search needs
@@ -75,11 +79,25 @@ refused-requires-2 : tie.Need-refused-requires-2
 refused-requires-2 c κs = search needs
 
 returns-2 : tie.Need-returns-2
-returns-2 c = c .refused2 .ensures ∙ rw (refusal-is (c .before .before)) (sym (line-refused _ _ _ _ (passed (formed (c .before .before .before .before .before .before)) (c .before .before .before .before .before .if1 .left)) (λ good. c .before .if2 .taken (refusal-is (c .before .before) ∙ good))))
+returns-2 c =
+    c .refused2 .ensures
+    ∙ rw (refusal-is (c .before .before))
+    (sym
+    (line-refused _ _ _ _ (passed (formed (c .before .before .before .before .before .before)) (c .before .before .before .before .before .if1 .left))
+    (λ good. c .before .if2 .taken (refusal-is (c .before .before) ∙ good))))
 
 returns-3 : tie.Need-returns-3
 unfolding lineRead
-returns-3 c = rw (population-is (c .before .before .before), c .before .before .fingerprint .ensures, name-is (c .before .before .before .before .before .before .before .before), c .before .before .before .before .before .before .before .before .before .before .before .before .line-end .ensures) (sym (line-accepted _ _ _ _ (passed (formed (c .before .before .before .before .before)) (c .before .before .before .before .if1 .left)) (sym (refusal-is (c .before)) ∙ c .if2 .left)))
+returns-3 c =
+    rw (
+      population-is (c .before .before .before),
+      c .before .before .fingerprint .ensures,
+      name-is (c .before .before .before .before .before .before .before .before),
+      c .before .before .before .before .before .before .before .before .before .before .before .before .line-end .ensures,
+    )
+    (sym
+    (line-accepted _ _ _ _ (passed (formed (c .before .before .before .before .before)) (c .before .before .before .before .if1 .left))
+    (sym (refusal-is (c .before)) ∙ c .if2 .left)))
 
 pub read-state-spec : {M : Type 1} → statement M
 read-state-spec =

@@ -1,6 +1,5 @@
 -- A refused line is the definition's, field by field.
 -- Assumes nothing.
-use borrow.Author.Needs.{needs}
 use mathlib.Core.Path.{refl}
 use Rattle.lines.specs.Cut.{lineRefused}
 use Rattle.lines.proofs.pairs.refused.Statement.{statement}

@@ -51,10 +51,11 @@ unfolding statesOf noPopulations
 loop-holds c = (omega arith, omega arith, kept-none _, rw sub-zero)
 
 array-share-prefix-prints : tie.Need-array-share-prefix-prints Inv-loop μ-loop
-array-share-prefix-prints c = omega (arith, (c .before .before .before .pre), c .before .loop .inv .2 .room)
+array-share-prefix-prints c = omega (arith, c .before .before .before .pre, c .before .loop .inv .2 .room)
 
 slice-aggregate-read-state : tie.Need-slice-aggregate-read-state Inv-loop μ-loop
-slice-aggregate-read-state c = sym (length-take-le _ _ (omega (arith, (c .before .before .before .before .pre), c .before .before .loop .inv .2 .room)))
+slice-aggregate-read-state c =
+    sym (length-take-le _ _ (omega (arith, c .before .before .before .before .pre, c .before .before .loop .inv .2 .room)))
 
 read-state-requires : tie.Need-read-state-requires Inv-loop μ-loop
 read-state-requires c κs = (c .before .before .loop .inv .1, c .before .before .loop .inv .2 .held)
@@ -66,25 +67,30 @@ refused-requires : tie.Need-refused-requires Inv-loop μ-loop
 refused-requires c κs = search needs
 
 returns : tie.Need-returns Inv-loop μ-loop
-returns c = c .refused .ensures ∙ sym (c .before .before .before .before .before .loop .inv .3 ∙ states-refused _ _ _ _ _ _ _ (omega arith) (λ none. c .before .if1 .taken (refusal-is (c .before .before) ∙ none)) ∙ rw (refusal-is (c .before .before)))
+returns c =
+    c .refused .ensures
+    ∙ sym
+    (c .before .before .before .before .before .loop .inv .3
+    ∙ states-refused _ _ _ _ _ _ _ (omega arith) (λ none. c .before .if1 .taken (refusal-is (c .before .before) ∙ none))
+    ∙ rw (refusal-is (c .before .before)))
 
 mul-populations : tie.Need-mul-populations Inv-loop μ-loop
-mul-populations c = omega (arith, (c .before .before .before .before .before .before .pre))
+mul-populations c = omega (arith, c .before .before .before .before .before .before .pre)
 
 array-write-populations : tie.Need-array-write-populations Inv-loop μ-loop
-array-write-populations c = omega (arith, (c .before .before .before .before .before .before .pre))
+array-write-populations c = omega (arith, c .before .before .before .before .before .before .pre)
 
 mul-prints : tie.Need-mul-prints Inv-loop μ-loop
-mul-prints c = omega (arith, (c .before .before .before .before .before .before .pre))
+mul-prints c = omega (arith, c .before .before .before .before .before .before .pre)
 
 array-write-prints : tie.Need-array-write-prints Inv-loop μ-loop
-array-write-prints c = omega (arith, (c .before .before .before .before .before .before .pre))
+array-write-prints c = omega (arith, c .before .before .before .before .before .before .pre)
 
 add-sum : tie.Need-add-sum Inv-loop μ-loop
 add-sum c = omega (arith, population-is (c .before), line-sound (c .before) .fits)
 
 add-k : tie.Need-add-k Inv-loop μ-loop
-add-k c = omega (arith, (c .before .before .before .before .before .before .before .pre))
+add-k c = omega (arith, c .before .before .before .before .before .before .before .pre)
 
 rest-from-requires : tie.Need-rest-from-requires Inv-loop μ-loop
 unfolding lineRead
@@ -95,7 +101,15 @@ loop-less c = omega arith
 
 loop-again : tie.Need-loop-again Inv-loop μ-loop
 unfolding lineRead
-loop-again c = (omega arith, omega (arith, population-is (c .before .before), line-sound (c .before .before) .fits), kept-more _ _ _ _ _ _ (c .before .before .before .before .before .before .loop .inv .2) (omega (arith, (c .before .before .before .before .before .before .before .before .pre))) (c .rest-from .ensures) (ap (λ r. r .print) (line-is (c .before .before))), c .before .before .before .before .before .before .loop .inv .3 ∙ states-passed _ _ _ (c .before .before .before .before .before .before .before .before .args .head .states - (c .before .before .before .before .before .before .loop .k + 1)) _ _ _ _ (omega arith) (good (c .before .before)) ∙ rw (population-is (c .before .before), c .rest-from .ensures))
+loop-again c = (
+  omega arith,
+  omega (arith, population-is (c .before .before), line-sound (c .before .before) .fits),
+  kept-more _ _ _ _ _ _ (c .before .before .before .before .before .before .loop .inv .2) (omega (arith, c .before .before .before .before .before .before .before .before .pre))
+      (c .rest-from .ensures) (ap (λ r. r .print) (line-is (c .before .before))),
+  c .before .before .before .before .before .before .loop .inv .3
+      ∙ states-passed _ _ _ (c .before .before .before .before .before .before .before .before .args .head .states - (c .before .before .before .before .before .before .loop .k + 1)) _ _ _ _ (omega arith) (good (c .before .before))
+      ∙ rw (population-is (c .before .before), c .rest-from .ensures),
+)
 
 close-requires : tie.Need-close-requires Inv-loop μ-loop
 close-requires c κs = (c .before .before .before .pre)
