@@ -90,14 +90,12 @@ use Rattle.register.specs.Register.{
   readingOf,
 }
 use Rattle.register.specs.Names.{linesAfter, nameRefusalIn, nameRefusalOf, nameOf}
-use Rattle.text.specs.Words.{methodText}
+use Rattle.text.specs.Words.{methodText, numbersText, totalLine}
 use Rattle.listing.specs.Listing.{
-  numbersText,
   headLine,
   departureText,
   stateLine,
   stateLines,
-  totalLine,
   seatsIn,
   listingIn,
   listingOf,

@@ -13,17 +13,13 @@ use Rattle.apportionment.specs.Text.{bytesOf, decimal}
 use Rattle.apportionment.specs.Quantities.{shownOf, shownText, sizeOf, markOf, markText}
 use Rattle.apportionment.specs.Allotment.{allotRefusal, seatsOf}
 use Rattle.apportionment.specs.declared.Method.{Method}
-use Rattle.text.specs.Words.{methodText}
+use Rattle.text.specs.Words.{methodText, numbersText, totalLine, refusalLine}
 use Rattle.register.specs.Register.{readingOf}
 use Rattle.register.specs.Names.{nameOf}
 use Rattle.register.specs.declared.Reading.{Reading}
 use Rattle.listing.specs.declared.Listed.{Listed}
 
 -- ---- lines
-
--- Two numbers of a line, each after a comma.
-unfoldable pub numbersText : (x y : ℕ) → List ℕ
-numbersText x y = bytesOf "," ++ decimal x ++ bytesOf "," ++ decimal y
 
 -- Line 1: the word, method, house, states.
 unfoldable pub headLine : Method → (H n : ℕ) → List ℕ
@@ -44,10 +40,6 @@ unfoldable pub stateLines : (name : ℕ → List ℕ) (ps seats : List ℕ) (P H
 stateLines name ps seats P H zero = []
 stateLines name ps seats P H (suc k) =
     stateLines name ps seats P H k ++ stateLine (name k) (getD ps k 0) (getD seats k 0) P H
-
--- The last line: the word, P, seats allotted.
-unfoldable pub totalLine : (P allotted : ℕ) → List ℕ
-totalLine P allotted = bytesOf "total" ++ numbersText P allotted ++ bytesOf "\n"
 
 -- ---- the listing
 
@@ -108,10 +100,6 @@ pub record ListingIs (register before : List ℕ) (r : Listed) (after : List ℕ
   pub buffer : after ≡ bufferAfter register before
 
 -- ---- what the allotment program prints
-
--- A refusal's line.
-unfoldable pub refusalLine : (number line : ℕ) → List ℕ
-refusalLine number line = bytesOf "refused" ++ numbersText number line ++ bytesOf "\n"
 
 -- The listing, or on a refusal its number and line alone; the program has room for every listing.
 unfoldable pub printedOf : (register : List ℕ) → List ℕ

@@ -11,12 +11,13 @@ use lib.Dec.{leb, eqb}
 use lib.ListN.{length, drop, length-append}
 use lib.Seq.{take-at}
 use Rattle.apportionment.specs.Refusals.{accepted, bufferTooShort}
-use Rattle.text.specs.Bounds.{decimal-of-u64}
+use Rattle.text.specs.Bounds.{refusal-line-length}
+use Rattle.text.specs.Words.{refusalLine}
 use Rattle.text.specs.Writing.{Wrote, AtFront, wrote-front}
 use Rattle.register.specs.Register.{readingOf}
 use Rattle.listing.specs.declared.Listed.{Listed}
-use Rattle.listing.specs.Listing.{numbersText, listingOf, refused, allotRefusalIn, fittedOf, listedIn, listedOf, bufferAfter, ListingIs, refusalLine, printedOf}
-use Rattle.listing.specs.Room.{listingRoom, numbers-length}
+use Rattle.listing.specs.Listing.{listingOf, refused, allotRefusalIn, fittedOf, listedIn, listedOf, bufferAfter, ListingIs, printedOf}
+use Rattle.listing.specs.Room.{listingRoom}
 use Rattle.listing.specs.Listed.{listing-fits}
 
 -- ---- a page with room for every listing
@@ -65,11 +66,6 @@ whole-size s room =
 
 -- ---- what is printed
 
-refusal-length : (n l : ℕ) → n < 2 ^ 64 → l < 2 ^ 64 → length (refusalLine n l) ≤ 50
-unfolding refusalLine
-refusal-length n l few small =
-    simp length-append (omega (arith, numbers-length n l (decimal-of-u64 n few) (decimal-of-u64 l small)))
-
 module _ {s before : List ℕ} {r : Listed} {after : List ℕ} (is : ListingIs s before r after) (room : listingRoom ≤ length before) where
   said : r ≡ listedOf s (length (listingOf s))
   said = is .answer ∙ same-answer s (length before) room
@@ -96,4 +92,4 @@ module _ {s before : List ℕ} {r : Listed} {after : List ℕ} (is : ListingIs s
   unfolding printedOf
   refusal-printed some number line {last} {end} wide wrote =
       rw (ne-eqb _ _ (λ none. some (ap (λ (x : Listed). x .refusal) said ∙ none)), ← said)
-      (wrote-front wrote (omega (arith, refusal-length (r .refusal) (r .line) number line)))
+      (wrote-front wrote (omega (arith, refusal-line-length (r .refusal) (r .line) number line)))

@@ -15,10 +15,10 @@ use Rattle.apportionment.specs.Lists.{sum}
 use Rattle.apportionment.specs.Text.{bytesOf, decimal}
 use Rattle.apportionment.specs.Quantities.{distance, sizeOf, nearestWhole, hundredthsOf, shownOf, shownText, markOf, markText}
 use Rattle.apportionment.specs.declared.Method.{Method}
-use Rattle.text.specs.Bounds.{decimal-of-u64, decimal-of-sum, shown-length, mark-length, method-length}
+use Rattle.text.specs.Bounds.{decimal-of-u64, decimal-of-sum, shown-length, mark-length, method-length, numbers-length, total-line-length}
 use Rattle.register.specs.declared.Reading.{Reading}
 use Rattle.departure.specs.Answer.{InLimits}
-use Rattle.listing.specs.Listing.{numbersText, headLine, departureText, stateLine, stateLines, totalLine, populationsIn, listingIn}
+use Rattle.listing.specs.Listing.{headLine, departureText, stateLine, stateLines, populationsIn, listingIn}
 use Rattle.listing.specs.Rows.{Rows}
 
 -- ---- a departure
@@ -65,11 +65,6 @@ departure-length p (suc a) P H some within limited =
 
 -- ---- lines
 
--- The bytes of two numbers, each within its own bound.
-pub numbers-length : {k l : ℕ} (x y : ℕ) → length (decimal x) ≤ k → length (decimal y) ≤ l → length (numbersText x y) ≤ k + l + 2
-unfolding numbersText
-numbers-length x y few some = simp length-append (omega arith)
-
 -- A state's line has at most 92 bytes.
 state-line-length : (name : List ℕ) {p a P H : ℕ} → length name ≤ 32 → InLimits p a P H → length (stateLine name p a P H) ≤ 92
 unfolding stateLine
@@ -96,16 +91,11 @@ state-lines-length name ps seats P H (suc k) short each =
       state-line-length (name k) (short k (omega arith)) (each k (omega arith)),
     ))
 
--- The head has at most 63 bytes, and the last line 38.
+-- The head has at most 63 bytes.
 head-line-length : (m : Method) (H n : ℕ) → H < 2 ^ 64 → n < 2 ^ 64 → length (headLine m H n) ≤ 63
 unfolding headLine
 head-line-length m H n house states =
     simp length-append (omega (arith, method-length m, numbers-length H n (decimal-of-u64 H house) (decimal-of-u64 n states)))
-
-total-line-length : (P allotted : ℕ) → P ≤ sumLimit → allotted < 2 ^ 64 → length (totalLine P allotted) ≤ 38
-unfolding totalLine
-total-line-length P allotted limited seats =
-    simp length-append (omega (arith, numbers-length P allotted (decimal-of-sum P limited) (decimal-of-u64 allotted seats)))
 
 -- ---- the listing
 

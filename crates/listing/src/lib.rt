@@ -51,7 +51,7 @@ fn put_listing(out: &mut [u8], reading: Reading, rows: &[u8], seats: &[u64]) -> 
         reading.total,
         reading.house,
     );
-    rows::put_total(out, states, reading.total, problem::total_of(seats))
+    text::put_total(out, states, reading.total, problem::total_of(seats))
 }
 
 // Hands the listing of what was read over to the buffer, if it fits.
@@ -108,5 +108,5 @@ pub fn print(register: &[u8], page: &mut [u8; LISTING_ROOM]) -> usize
     if listed.refusal == refusals::ACCEPTED {
         return listed.size;
     }
-    rows::put_refusal(&mut page[..], 0, listed.refusal, listed.line)
+    text::put_refusal(&mut page[..], 0, listed.refusal, listed.line)
 }

@@ -9,18 +9,8 @@ ghost use Prim.Native.Nat.{ℕ, _<_};
 ghost use lib.ListN.{length};
 ghost use Rattle.departure.specs.Answer.{InLimits};
 ghost use Rattle.text.specs.Writing.{Wrote};
-ghost use Rattle.listing.specs.Listing.{numbersText, headLine, departureText, stateLine, stateLines, totalLine, refusalLine};
+ghost use Rattle.listing.specs.Listing.{headLine, departureText, stateLine, stateLines};
 ghost use Rattle.listing.specs.Rows.{namesFrom, Rows};
-
-// Two numbers, each after a comma.
-fn put_numbers(out: &mut [u8], at: usize, x: u64, y: u64) -> usize
-    ensures { λ r. ⌜ Wrote (now (out .entry)) at (numbersText x y) (now (out .exit)) r ⌝ }
-{
-    let comma = text::put_byte(out, at, b',');
-    let number = text::put_decimal(out, comma, x);
-    let next = text::put_byte(out, number, b',');
-    text::put_decimal(out, next, y)
-}
 
 // Line 1.
 pub fn put_head(out: &mut [u8], at: usize, method: Method, house: u64, states: u64) -> usize
@@ -28,7 +18,7 @@ pub fn put_head(out: &mut [u8], at: usize, method: Method, house: u64, states: u
 {
     let word = text::put_bytes(out, at, b"allotment,");
     let named = text::put_method(out, word, method);
-    let numbers = put_numbers(out, named, house, states);
+    let numbers = text::put_numbers(out, named, house, states);
     text::put_byte(out, numbers, b'\n')
 }
 
@@ -67,7 +57,7 @@ fn put_state(
     ensures { λ r. ⌜ Wrote (now (out .entry)) at (stateLine (now (name .entry)) population seats total house) (now (out .exit)) r ⌝ }
 {
     let named = text::put_bytes(out, at, name);
-    let numbers = put_numbers(out, named, population, seats);
+    let numbers = text::put_numbers(out, named, population, seats);
     let comma = text::put_byte(out, numbers, b',');
     let shown = put_departure(out, comma, population, seats, total, house);
     text::put_byte(out, shown, b'\n')
@@ -104,22 +94,4 @@ pub fn put_states(
         k += 1;
     }
     next
-}
-
-// The last line.
-pub fn put_total(out: &mut [u8], at: usize, total: u64, allotted: u64) -> usize
-    ensures { λ r. ⌜ Wrote (now (out .entry)) at (totalLine total allotted) (now (out .exit)) r ⌝ }
-{
-    let word = text::put_bytes(out, at, b"total");
-    let numbers = put_numbers(out, word, total, allotted);
-    text::put_byte(out, numbers, b'\n')
-}
-
-// The one line of a refusal.
-pub fn put_refusal(out: &mut [u8], at: usize, number: u64, line: u64) -> usize
-    ensures { λ r. ⌜ Wrote (now (out .entry)) at (refusalLine number line) (now (out .exit)) r ⌝ }
-{
-    let word = text::put_bytes(out, at, b"refused");
-    let numbers = put_numbers(out, word, number, line);
-    text::put_byte(out, numbers, b'\n')
 }

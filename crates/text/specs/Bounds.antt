@@ -15,7 +15,7 @@ use Rattle.apportionment.specs.declared.Mark.{Mark}
 use Rattle.apportionment.specs.declared.Mark.the-variants.{In, High, Over, None}
 use Rattle.apportionment.specs.declared.Method.{Method}
 use Rattle.apportionment.specs.declared.Method.the-variants.{Leximin, Adams, Dean, Hill, Webster, Jefferson, Remainders}
-use Rattle.text.specs.Words.{methodText}
+use Rattle.text.specs.Words.{methodText, numbersText, totalLine, refusalLine}
 use Rattle.text.specs.Decimal.{decimal-one, decimal-more}
 
 -- A number below 10 ^ (k + 1) has at most k + 1 digits.
@@ -65,3 +65,19 @@ method-length Hill = omega arith
 method-length Webster = omega arith
 method-length Jefferson = omega arith
 method-length Remainders = omega arith
+
+-- The bytes of two numbers, each within its own bound.
+pub numbers-length : {k l : ℕ} (x y : ℕ) → length (decimal x) ≤ k → length (decimal y) ≤ l → length (numbersText x y) ≤ k + l + 2
+unfolding numbersText
+numbers-length x y few some = simp length-append (omega arith)
+
+-- The line of totals has at most 38 bytes, and a refusal's 50.
+pub total-line-length : (P allotted : ℕ) → P ≤ sumLimit → allotted < 2 ^ 64 → length (totalLine P allotted) ≤ 38
+unfolding totalLine
+total-line-length P allotted limited seats =
+    simp length-append (omega (arith, numbers-length P allotted (decimal-of-sum P limited) (decimal-of-u64 allotted seats)))
+
+pub refusal-line-length : (n l : ℕ) → n < 2 ^ 64 → l < 2 ^ 64 → length (refusalLine n l) ≤ 50
+unfolding refusalLine
+refusal-line-length n l few small =
+    simp length-append (omega (arith, numbers-length n l (decimal-of-u64 n few) (decimal-of-u64 l small)))

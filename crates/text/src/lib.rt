@@ -12,7 +12,7 @@ ghost use lib.ListN.{length};
 ghost use Rattle.apportionment.specs.Text.{decimal, digit};
 ghost use Rattle.apportionment.specs.Quantities.{hundredthsText, shownText, markText};
 ghost use Rattle.text.specs.Writing.{Wrote, copiedOut};
-ghost use Rattle.text.specs.Words.{methodText};
+ghost use Rattle.text.specs.Words.{methodText, numbersText, totalLine, refusalLine};
 
 // One byte.
 pub fn put_byte(out: &mut [u8], at: usize, byte: u8) -> usize
@@ -117,6 +117,34 @@ pub fn put_method(out: &mut [u8], at: usize, method: Method) -> usize
         Method::Jefferson => put_bytes(out, at, b"jefferson"),
         Method::Remainders => put_bytes(out, at, b"remainders"),
     }
+}
+
+// Two numbers, each after a comma.
+pub fn put_numbers(out: &mut [u8], at: usize, x: u64, y: u64) -> usize
+    ensures { λ r. ⌜ Wrote (now (out .entry)) at (numbersText x y) (now (out .exit)) r ⌝ }
+{
+    let comma = put_byte(out, at, b',');
+    let number = put_decimal(out, comma, x);
+    let next = put_byte(out, number, b',');
+    put_decimal(out, next, y)
+}
+
+// The line of totals: P, and the seats allotted.
+pub fn put_total(out: &mut [u8], at: usize, total: u64, allotted: u64) -> usize
+    ensures { λ r. ⌜ Wrote (now (out .entry)) at (totalLine total allotted) (now (out .exit)) r ⌝ }
+{
+    let word = put_bytes(out, at, b"total");
+    let numbers = put_numbers(out, word, total, allotted);
+    put_byte(out, numbers, b'\n')
+}
+
+// The one line of a refusal.
+pub fn put_refusal(out: &mut [u8], at: usize, number: u64, line: u64) -> usize
+    ensures { λ r. ⌜ Wrote (now (out .entry)) at (refusalLine number line) (now (out .exit)) r ⌝ }
+{
+    let word = put_bytes(out, at, b"refused");
+    let numbers = put_numbers(out, word, number, line);
+    put_byte(out, numbers, b'\n')
 }
 
 // A finished text, copied to the front of a lent buffer if it fits; otherwise the buffer keeps every byte. Says which.

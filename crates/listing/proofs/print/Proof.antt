@@ -5,7 +5,7 @@ use Rattle.listing.proofs.print.Statement.{statement}
 use Rattle.listing.proofs.print.Tie as tie
 use Rattle.listing.proofs.print.Reads as reads
 use Rattle.listing.proofs.print.Lts as lts
-use Rattle.listing.proofs.rows.put_refusal.Reads as put-refusal-reads
+use Rattle.text.proofs.put_refusal.Reads as put-refusal-reads
 use Rattle.listing.proofs.write_listing.Reads as write-listing-reads
 
 -- src/lib.rt:91:9

@@ -12,7 +12,7 @@ use Rattle.listing.proofs.put_listing.Reads as reads
 use Rattle.listing.proofs.put_listing.Lts as lts
 use Rattle.listing.proofs.rows.put_head.Reads as put-head-reads
 use Rattle.listing.proofs.rows.put_states.Reads as put-states-reads
-use Rattle.listing.proofs.rows.put_total.Reads as put-total-reads
+use Rattle.text.proofs.put_total.Reads as put-total-reads
 use Rattle.problem.proofs.total_of.Reads as total-of-reads
 
 -- src/lib.rt:40:9

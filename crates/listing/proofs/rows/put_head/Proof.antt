@@ -5,7 +5,7 @@ use Rattle.listing.proofs.rows.put_head.Statement.{statement}
 use Rattle.listing.proofs.rows.put_head.Tie as tie
 use Rattle.listing.proofs.rows.put_head.Reads as reads
 use Rattle.listing.proofs.rows.put_head.Lts as lts
-use Rattle.listing.proofs.rows.put_numbers.Reads as put-numbers-reads
+use Rattle.text.proofs.put_numbers.Reads as put-numbers-reads
 use Rattle.text.proofs.put_byte.Reads as put-byte-reads
 use Rattle.text.proofs.put_bytes.Reads as put-bytes-reads
 use Rattle.text.proofs.put_method.Reads as put-method-reads

@@ -6,7 +6,7 @@ use Rattle.listing.proofs.rows.put_state.Tie as tie
 use Rattle.listing.proofs.rows.put_state.Reads as reads
 use Rattle.listing.proofs.rows.put_state.Lts as lts
 use Rattle.listing.proofs.rows.put_departure.Reads as put-departure-reads
-use Rattle.listing.proofs.rows.put_numbers.Reads as put-numbers-reads
+use Rattle.text.proofs.put_numbers.Reads as put-numbers-reads
 use Rattle.text.proofs.put_byte.Reads as put-byte-reads
 use Rattle.text.proofs.put_bytes.Reads as put-bytes-reads
 

@@ -1,35 +1,26 @@
+-- `text::put_refusal` meets its contract: the word, the numbers and the line end, one after the other.
+-- Assumes nothing.
 use Rattle.text.specs.Writing.{wrote-then}
-use Rattle.listing.specs.Listing.{refusalLine}
+use Rattle.text.specs.Words.{refusalLine}
 use borrow.Author.Needs.{needs}
-use Rattle.listing.proofs.rows.put_refusal.Statement.{statement}
-use Rattle.listing.proofs.rows.put_refusal.Tie as tie
-use Rattle.listing.proofs.rows.put_refusal.Reads as reads
-use Rattle.listing.proofs.rows.put_refusal.Lts as lts
-use Rattle.listing.proofs.rows.put_numbers.Reads as put-numbers-reads
-use Rattle.text.proofs.put_byte.Reads as put-byte-reads
-use Rattle.text.proofs.put_bytes.Reads as put-bytes-reads
+use Rattle.text.proofs.put_refusal.Statement.{statement}
+use Rattle.text.proofs.put_refusal.Tie as tie
 
--- src/rows.rt:91:41
 slice-aggregate-put-bytes : tie.Need-slice-aggregate-put-bytes
 slice-aggregate-put-bytes c = search needs
 
--- src/rows.rt:91:9
 put-bytes-requires : tie.Need-put-bytes-requires
 put-bytes-requires c κs = search needs
 
--- src/rows.rt:92:9
 put-numbers-requires : tie.Need-put-numbers-requires
 put-numbers-requires c κs = search needs
 
--- src/rows.rt:93:5
 put-byte-requires : tie.Need-put-byte-requires
 put-byte-requires c κs = search needs
 
--- src/rows.rt:88:1
 same-length : tie.Need-same-length
 same-length c = search needs
 
--- src/rows.rt:88:1
 returns : tie.Need-returns
 unfolding refusalLine
 returns c = wrote-then (wrote-then (c .before .before .before .before .before .before .before .before .before .before .put-bytes .ensures) (c .before .before .before .before .before .before .put-numbers .ensures)) (c .before .before .put-byte .ensures)

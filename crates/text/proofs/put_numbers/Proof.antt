@@ -1,34 +1,26 @@
+-- `text::put_numbers` meets its contract: comma, number, comma and number, one after the other.
+-- Assumes nothing.
 use Rattle.text.specs.Writing.{wrote-then}
-use Rattle.listing.specs.Listing.{numbersText}
+use Rattle.text.specs.Words.{numbersText}
 use borrow.Author.Needs.{needs}
-use Rattle.listing.proofs.rows.put_numbers.Statement.{statement}
-use Rattle.listing.proofs.rows.put_numbers.Tie as tie
-use Rattle.listing.proofs.rows.put_numbers.Reads as reads
-use Rattle.listing.proofs.rows.put_numbers.Lts as lts
-use Rattle.text.proofs.put_byte.Reads as put-byte-reads
-use Rattle.text.proofs.put_decimal.Reads as put-decimal-reads
+use Rattle.text.proofs.put_numbers.Statement.{statement}
+use Rattle.text.proofs.put_numbers.Tie as tie
 
--- src/rows.rt:20:9
 put-byte-requires : tie.Need-put-byte-requires
 put-byte-requires c κs = search needs
 
--- src/rows.rt:21:9
 put-decimal-requires : tie.Need-put-decimal-requires
 put-decimal-requires c κs = search needs
 
--- src/rows.rt:22:9
 put-byte-requires-2 : tie.Need-put-byte-requires-2
 put-byte-requires-2 c κs = search needs
 
--- src/rows.rt:23:5
 put-decimal-requires-2 : tie.Need-put-decimal-requires-2
 put-decimal-requires-2 c κs = search needs
 
--- src/rows.rt:17:1
 same-length : tie.Need-same-length
 same-length c = search needs
 
--- src/rows.rt:17:1
 returns : tie.Need-returns
 unfolding numbersText
 returns c = wrote-then (wrote-then (wrote-then (c .before .before .before .before .before .before .before .before .before .before .before .before .before .before .put-byte .ensures) (c .before .before .before .before .before .before .before .before .before .before .put-decimal .ensures)) (c .before .before .before .before .before .before .put-byte2 .ensures)) (c .before .before .put-decimal2 .ensures)
