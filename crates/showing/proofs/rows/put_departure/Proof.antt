@@ -1,0 +1,77 @@
+-- `showing::rows::put_departure` meets its contract: each arm writes the text of its answer.
+-- Assumes nothing.
+use mathlib.Core.Path.{sym, _∙_}
+use borrow.Author.Needs.{needs}
+use mir.Syntax.{w64}
+use mir.ValLaws.{toZ-ofZ}
+use Rattle.showing.specs.Work.{departureText, answerText}
+use Rattle.showing.proofs.rows.put_departure.Statement.{statement}
+use Rattle.showing.proofs.rows.put_departure.Tie as tie
+
+departure-of-requires : tie.Need-departure-of-requires
+departure-of-requires c κs = search needs
+
+enum-told : tie.Need-enum-told
+enum-told c = search needs
+
+slice-aggregate-put-bytes : tie.Need-slice-aggregate-put-bytes
+slice-aggregate-put-bytes c = search needs
+
+put-bytes-requires : tie.Need-put-bytes-requires
+put-bytes-requires c κs = search needs
+
+enum-told-2 : tie.Need-enum-told-2
+enum-told-2 c = search needs
+
+slice-aggregate-put-bytes-2 : tie.Need-slice-aggregate-put-bytes-2
+slice-aggregate-put-bytes-2 c = search needs
+
+put-bytes-requires-2 : tie.Need-put-bytes-requires-2
+put-bytes-requires-2 c κs = search needs
+
+enum-known-answer : tie.Need-enum-known-answer
+enum-known-answer c = search needs
+
+put-shown-requires : tie.Need-put-shown-requires
+put-shown-requires c κs = search needs
+
+same-length : tie.Need-same-length
+same-length c = search needs
+
+returns : tie.Need-returns
+unfolding departureText answerText
+returns c = rw (sym (c .before .before .before .before .before .before .before .departure-of .ensures) ∙ c .before .before .before .before .before .enum-told .given .1) (c .before .before .put-bytes .ensures)
+
+same-length-2 : tie.Need-same-length-2
+same-length-2 c = search needs
+
+returns-2 : tie.Need-returns-2
+unfolding departureText answerText
+returns-2 c = rw (sym (c .before .before .before .before .before .before .before .departure-of .ensures) ∙ c .before .before .before .before .before .enum-told2 .given .1) (c .before .before .put-bytes2 .ensures)
+
+same-length-3 : tie.Need-same-length-3
+same-length-3 c = search needs
+
+returns-3 : tie.Need-returns-3
+unfolding departureText answerText
+returns-3 c = rw (sym (c .before .before .before .before .before .before .before .departure-of .ensures) ∙ c .before .before .before .before .before .answer .given .1, ← toZ-ofZ w64 (c .before .before .before .before .before .answer .given .0 .0) (record { sfits = c .before .before .before .before .known-told .given .0 .1 })) (c .before .before .put-shown .ensures)
+
+pub put-departure-spec : {M : Type 1} → statement M
+put-departure-spec =
+    tie.close
+    (tie.spec
+    departure-of-requires
+    enum-told
+    slice-aggregate-put-bytes
+    put-bytes-requires
+    enum-told-2
+    slice-aggregate-put-bytes-2
+    put-bytes-requires-2
+    enum-known-answer
+    put-shown-requires
+    same-length
+    returns
+    same-length-2
+    returns-2
+    same-length-3
+    returns-3)

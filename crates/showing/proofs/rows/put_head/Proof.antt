@@ -1,0 +1,37 @@
+-- `showing::rows::put_head` meets its contract: its pieces, one after the other.
+-- Assumes nothing.
+use borrow.Author.Needs.{needs}
+use Rattle.showing.specs.Work.{headLine}
+use Rattle.text.specs.Writing.{wrote-then}
+use Rattle.showing.proofs.rows.put_head.Statement.{statement}
+use Rattle.showing.proofs.rows.put_head.Tie as tie
+
+slice-aggregate-put-bytes : tie.Need-slice-aggregate-put-bytes
+slice-aggregate-put-bytes c = search needs
+
+put-bytes-requires : tie.Need-put-bytes-requires
+put-bytes-requires c κs = search needs
+
+put-numbers-requires : tie.Need-put-numbers-requires
+put-numbers-requires c κs = search needs
+
+put-byte-requires : tie.Need-put-byte-requires
+put-byte-requires c κs = search needs
+
+same-length : tie.Need-same-length
+same-length c = search needs
+
+returns : tie.Need-returns
+unfolding headLine
+returns c = wrote-then (wrote-then (c .before .before .before .before .before .before .before .before .before .before .put-bytes .ensures) (c .before .before .before .before .before .before .put-numbers .ensures)) (c .before .before .put-byte .ensures)
+
+pub put-head-spec : {M : Type 1} → statement M
+put-head-spec =
+    tie.close
+    (tie.spec
+    slice-aggregate-put-bytes
+    put-bytes-requires
+    put-numbers-requires
+    put-byte-requires
+    same-length
+    returns)

@@ -1,0 +1,45 @@
+-- `showing::rows::put_state` meets its contract: its pieces, one after the other.
+-- Assumes nothing.
+use borrow.Author.Needs.{needs}
+use Rattle.showing.specs.Work.{stateLine}
+use Rattle.text.specs.Writing.{wrote-then}
+use Rattle.showing.proofs.rows.put_state.Statement.{statement}
+use Rattle.showing.proofs.rows.put_state.Tie as tie
+
+put-bytes-requires : tie.Need-put-bytes-requires
+put-bytes-requires c κs = search needs
+
+put-bytes-requires-2 : tie.Need-put-bytes-requires-2
+put-bytes-requires-2 c κs = search needs
+
+put-numbers-requires : tie.Need-put-numbers-requires
+put-numbers-requires c κs = search needs
+
+put-byte-requires : tie.Need-put-byte-requires
+put-byte-requires c κs = search needs
+
+put-departure-requires : tie.Need-put-departure-requires
+put-departure-requires c κs = search needs
+
+put-byte-requires-2 : tie.Need-put-byte-requires-2
+put-byte-requires-2 c κs = search needs
+
+same-length : tie.Need-same-length
+same-length c = search needs
+
+returns : tie.Need-returns
+unfolding stateLine
+returns c = wrote-then (wrote-then (wrote-then (wrote-then (wrote-then (c .before .before .before .before .before .before .before .before .before .before .before .before .before .before .before .before .before .before .before .before .before .before .put-bytes .ensures) (c .before .before .before .before .before .before .before .before .before .before .before .before .before .before .before .before .before .before .put-bytes2 .ensures)) (c .before .before .before .before .before .before .before .before .before .before .before .before .before .before .put-numbers .ensures)) (c .before .before .before .before .before .before .before .before .before .before .put-byte .ensures)) (c .before .before .before .before .before .before .put-departure .ensures)) (c .before .before .put-byte2 .ensures)
+
+pub put-state-spec : {M : Type 1} → statement M
+put-state-spec =
+    tie.close
+    (tie.spec
+    put-bytes-requires
+    put-bytes-requires-2
+    put-numbers-requires
+    put-byte-requires
+    put-departure-requires
+    put-byte-requires-2
+    same-length
+    returns)

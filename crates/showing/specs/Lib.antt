@@ -1,0 +1,2 @@
+-- The text of leximin's work: its lines and its blocks.
+pub mod Work

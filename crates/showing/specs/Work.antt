@@ -1,0 +1,183 @@
+-- Leximin's work as text, so that a person can follow which state moved at each step and why: the start, then before each step every state's
+-- seats and departure as they are and as they would be, then the step, and at last the end. README has the format with an example.
+-- A line is laid out in the order in which it is written. P is the sum of the populations, H the house; departures are measured against
+-- P / H throughout. A state's name stands on its line of the register; `rows` is the register from the first state's line on.
+-- Assumes nothing.
+use mathlib.Core.Path.{_≡_, refl}
+use mathlib.Core.Bool.{Bool, cond}
+use mathlib.Core.List.{List, [], _++_}
+use Prim.Native.Nat.{ℕ, zero, suc, _+_, _-_, _<_, _≤_, min}
+use native.Mathlib.Numerals.{add-one}
+use native.Mathlib.Omega.{arith}
+use borrow.Author.Tests.{eq-eqb, ne-eqb}
+use lib.Dec.{ltb, eqb}
+use lib.ListN.{length, getD, take}
+use lib.Seq.{length-take-le}
+use Rattle.apportionment.specs.Limits.{stateLimit}
+use Rattle.apportionment.specs.Text.{bytesOf, decimal}
+use Rattle.apportionment.specs.Quantities.{shownText}
+use Rattle.departure.specs.Answer.{departureOf}
+use Rattle.departure.specs.declared.Answer.{Answer}
+use Rattle.departure.specs.declared.Answer.the-variants.{Refused, NoSeats, Shown}
+use Rattle.lines.specs.Lines.{nameAt}
+use Rattle.register.specs.Names.{linesAfter}
+use Rattle.text.specs.Words.{numbersText, totalLine}
+use Rattle.placing.specs.declared.Placing.{Placing}
+
+-- ---- departures
+
+-- A departure as text: the shown one, or `none` where there is none.
+unfoldable pub answerText : Answer → List ℕ
+answerText Refused = bytesOf "none"
+answerText NoSeats = bytesOf "none"
+answerText (Shown hundredths mark) = shownText hundredths
+
+unfoldable pub departureText : (p a P H : ℕ) → List ℕ
+departureText p a P H = answerText (departureOf p a P H)
+
+-- ---- the lines of the start and the end
+
+-- The first line: the word, the method, the house, the number of states.
+unfoldable pub headLine : (H n : ℕ) → List ℕ
+headLine H n = bytesOf "work,leximin" ++ numbersText H n ++ bytesOf "\n"
+
+-- A state as it stands: the line's word, name, population, seats, departure.
+unfoldable pub stateLine : (word name : List ℕ) (p a P H : ℕ) → List ℕ
+stateLine word name p a P H = word ++ name ++ numbersText p a ++ bytesOf "," ++ departureText p a P H ++ bytesOf "\n"
+
+-- The lines of the first k states.
+unfoldable pub stateLines : (word rows ps seats : List ℕ) (P H k : ℕ) → List ℕ
+stateLines word rows ps seats P H zero = []
+stateLines word rows ps seats P H (suc k) =
+    stateLines word rows ps seats P H k ++ stateLine word (nameAt (linesAfter k rows)) (getD ps k 0) (getD seats k 0) P H
+
+pub state-lines-more : (word rows ps seats : List ℕ) (P H k : ℕ)
+    → stateLines word rows ps seats P H (k + 1)
+    ≡ stateLines word rows ps seats P H k ++ stateLine word (nameAt (linesAfter k rows)) (getD ps k 0) (getD seats k 0) P H
+unfolding stateLines
+state-lines-more word rows ps seats P H k = rw add-one
+
+-- ---- what is weighed before a step
+
+-- A state with a seats beside the same state with b: name, both seat counts, both departures.
+unfoldable pub movedText : (name : List ℕ) (p a b P H : ℕ) → List ℕ
+movedText name p a b P H =
+    name ++ numbersText a b ++ bytesOf "," ++ departureText p a P H ++ bytesOf "," ++ departureText p b P H
+
+-- The seats of a state if it is the one that moves: one more where a seat is added, one fewer where one is withdrawn. No state has more than
+-- the house; short of the house none has as many, so that in the work itself this bound changes nothing.
+unfoldable pub seatsIfMoved : (adds : Bool) (a H : ℕ) → ℕ
+seatsIfMoved adds a H = cond adds (min (a + 1) H) (a - 1)
+
+-- A state weighed: the step's number, name, seats, seats if it moved, departure, departure if it moved.
+unfoldable pub weighedLine : (step : ℕ) (name : List ℕ) (p a b P H : ℕ) → List ℕ
+weighedLine step name p a b P H =
+    bytesOf "weighed," ++ decimal step ++ bytesOf "," ++ movedText name p a b P H ++ bytesOf "\n"
+
+-- State k weighed, and the first k states.
+unfoldable pub weighedAt : (step : ℕ) (adds : Bool) (rows ps seats : List ℕ) (P H k : ℕ) → List ℕ
+weighedAt step adds rows ps seats P H k =
+    weighedLine step (nameAt (linesAfter k rows)) (getD ps k 0) (getD seats k 0) (seatsIfMoved adds (getD seats k 0) H) P H
+
+unfoldable pub weighedLines : (step : ℕ) (adds : Bool) (rows ps seats : List ℕ) (P H k : ℕ) → List ℕ
+weighedLines step adds rows ps seats P H zero = []
+weighedLines step adds rows ps seats P H (suc k) =
+    weighedLines step adds rows ps seats P H k ++ weighedAt step adds rows ps seats P H k
+
+pub weighed-lines-more : (step : ℕ) (adds : Bool) (rows ps seats : List ℕ) (P H k : ℕ)
+    → weighedLines step adds rows ps seats P H (k + 1)
+    ≡ weighedLines step adds rows ps seats P H k ++ weighedAt step adds rows ps seats P H k
+unfolding weighedLines
+weighed-lines-more step adds rows ps seats P H k = rw add-one
+
+-- ---- a step
+
+-- What a state does that goes from a seats to b.
+unfoldable pub verbText : (a b : ℕ) → List ℕ
+verbText a b = cond (ltb a b) (bytesOf ",gains,") (bytesOf ",gives up,")
+
+-- A step: its number, what the state does, name, seats before and after, departure before and after, the total afterwards.
+unfoldable pub stepLine : (step : ℕ) (name : List ℕ) (p a b P H total : ℕ) → List ℕ
+stepLine step name p a b P H total =
+    bytesOf "step," ++ decimal step ++ verbText a b ++ movedText name p a b P H ++ bytesOf "," ++ decimal total ++ bytesOf "\n"
+
+-- The first of `left` places, from i on, where two lists differ; the place after them where none does.
+unfoldable pub differenceFrom : (xs ys : List ℕ) (left i : ℕ) → ℕ
+differenceFrom xs ys zero i = i
+differenceFrom xs ys (suc left) i = cond (eqb (getD xs i 0) (getD ys i 0)) (differenceFrom xs ys left (i + 1)) i
+
+-- The first place where two lists of one length differ, or their length.
+unfoldable pub firstDifference : (xs ys : List ℕ) → ℕ
+firstDifference xs ys = differenceFrom xs ys (length xs) 0
+
+pub difference-none : (xs ys : List ℕ) (left i : ℕ) → left ≤ 0 → differenceFrom xs ys left i ≡ i
+unfolding differenceFrom
+difference-none xs ys zero i none = refl
+difference-none xs ys (suc left) i none = absurd (omega arith)
+
+pub difference-here : (xs ys : List ℕ) (left i : ℕ) → 0 < left → (getD xs i 0 ≡ getD ys i 0 → ⊥) → differenceFrom xs ys left i ≡ i
+unfolding differenceFrom
+difference-here xs ys zero i some differ = absurd (omega arith)
+difference-here xs ys (suc left) i some differ = rw (ne-eqb (getD xs i 0) (getD ys i 0) differ)
+
+pub difference-later : (xs ys : List ℕ) (left next i : ℕ) → left ≡ suc next → getD xs i 0 ≡ getD ys i 0
+    → differenceFrom xs ys left i ≡ differenceFrom xs ys next (i + 1)
+unfolding differenceFrom
+difference-later xs ys left next i one same = rw (one, eq-eqb (getD xs i 0) (getD ys i 0) same)
+
+-- ---- the blocks
+
+-- The states that a placing holds. It has places for no more than the limit, and opening and stepping give none that says so.
+unfoldable pub statesIn : Placing → ℕ
+statesIn p = min (p .states) stateLimit
+
+-- So a list with a place for each state that there may be has one for each of these.
+pub states-fit : (p : Placing) {n : ℕ} (xs : List ℕ) → n ≡ statesIn p → length xs ≡ stateLimit → n ≤ length xs
+unfolding statesIn
+states-fit p xs counted full = omega arith
+
+pub states-taken : (p : Placing) {n : ℕ} (xs : List ℕ) → n ≡ statesIn p → length xs ≡ stateLimit → length (take n xs) ≡ n
+states-taken p {n} xs counted full = length-take-le n xs (states-fit p xs counted full)
+
+-- Their populations and seats.
+unfoldable pub populationsIn : Placing → List ℕ
+populationsIn p = take (statesIn p) (p .populations)
+
+unfoldable pub seatsIn : Placing → List ℕ
+seatsIn p = take (statesIn p) (p .seats)
+
+-- The states of a placing as they stand, and their totals.
+unfoldable pub standText : (word rows : List ℕ) → Placing → (P : ℕ) → List ℕ
+standText word rows p P =
+    stateLines word rows (populationsIn p) (seatsIn p) P (p .house) (statesIn p) ++ totalLine P (p .total)
+
+-- The start: the first line, then every state at its own nearest seats, and the starting total.
+unfoldable pub startText : (rows : List ℕ) → Placing → (P : ℕ) → List ℕ
+startText rows p P = headLine (p .house) (statesIn p) ++ standText (bytesOf "start,") rows p P
+
+-- The end: every state at the house.
+unfoldable pub endText : (rows : List ℕ) → Placing → (P : ℕ) → List ℕ
+endText rows p P = standText (bytesOf "end,") rows p P
+
+-- Every state weighed, in a placing that is to make the step with this number.
+unfoldable pub weighedText : (step : ℕ) (rows : List ℕ) → Placing → (P : ℕ) → List ℕ
+weighedText step rows p P =
+    weighedLines step (ltb (p .total) (p .house)) rows (populationsIn p) (seatsIn p) P (p .house) (statesIn p)
+
+-- The place of the state that moved between two placings: the first where their seats differ.
+unfoldable pub movedAt : (before after : Placing) → ℕ
+movedAt before after = firstDifference (seatsIn before) (take (statesIn before) (after .seats))
+
+-- The line of the step of the state at a place; no line for a place that no state has.
+unfoldable pub stepText : (at : ℕ) (rows : List ℕ) (before after : Placing) (P : ℕ) → List ℕ
+stepText at rows before after P =
+    let line =
+    stepLine (after .steps) (nameAt (linesAfter at rows)) (getD (before .populations) at 0) (getD (before .seats) at 0)
+    (getD (after .seats) at 0) P (before .house) (after .total)
+    in
+    cond (ltb at (statesIn before)) line []
+
+-- A step from one placing to the next: what was weighed, and which state moved.
+unfoldable pub moveText : (rows : List ℕ) (before after : Placing) (P : ℕ) → List ℕ
+moveText rows before after P =
+    weighedText (after .steps) rows before P ++ stepText (movedAt before after) rows before after P

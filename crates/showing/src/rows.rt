@@ -1,0 +1,226 @@
+// The lines of the work, each written from a place on; see crate `text` for what that place is.
+use departure::Answer;
+use fields::cut;
+use lines::pairs;
+ghost use mathlib.Core.Path.{_≡_};
+ghost use mathlib.Core.List.{[]};
+ghost use lib.ListN.{length};
+ghost use Rattle.text.specs.Writing.{Wrote};
+ghost use Rattle.showing.specs.Work.{departureText, headLine, stateLine, stateLines, seatsIfMoved, movedText, weighedLine, weighedLines, verbText, stepLine};
+
+// The shown departure of a state, or `none` where it has no seat.
+fn put_departure(
+    out: &mut [u8],
+    at: usize,
+    population: u64,
+    seats: u64,
+    sum: u64,
+    house: u64,
+) -> usize
+    ensures { λ r. ⌜ Wrote (now (out .entry)) at (departureText population seats sum house) (now (out .exit)) r ⌝ }
+{
+    let answer = departure::departure_of(population, seats, sum, house);
+    match answer {
+        Answer::Refused => text::put_bytes(out, at, b"none"),
+        Answer::NoSeats => text::put_bytes(out, at, b"none"),
+        Answer::Shown {
+            hundredths,
+            mark: _,
+        } => text::put_shown(out, at, hundredths),
+    }
+}
+
+// The first line.
+pub fn put_head(out: &mut [u8], at: usize, house: u64, states: u64) -> usize
+    ensures { λ r. ⌜ Wrote (now (out .entry)) at (headLine house states) (now (out .exit)) r ⌝ }
+{
+    let word = text::put_bytes(out, at, b"work,leximin");
+    let numbers = text::put_numbers(out, word, house, states);
+    text::put_byte(out, numbers, b'\n')
+}
+
+// A state as it stands, on a line that starts with `word`.
+fn put_state(
+    out: &mut [u8],
+    at: usize,
+    word: &[u8],
+    name: &[u8],
+    population: u64,
+    seats: u64,
+    sum: u64,
+    house: u64,
+) -> usize
+    ensures { λ r. ⌜ Wrote (now (out .entry)) at (stateLine (now (word .entry)) (now (name .entry)) population seats sum house) (now (out .exit)) r ⌝ }
+{
+    let begun = text::put_bytes(out, at, word);
+    let named = text::put_bytes(out, begun, name);
+    let numbers = text::put_numbers(out, named, population, seats);
+    let comma = text::put_byte(out, numbers, b',');
+    let shown = put_departure(out, comma, population, seats, sum, house);
+    text::put_byte(out, shown, b'\n')
+}
+
+// The states as they stand. Their names stand on the lines of the register that start at `rows`.
+pub fn put_states(
+    out: &mut [u8],
+    at: usize,
+    word: &[u8],
+    rows: &[u8],
+    populations: &[u64],
+    seats: &[u64],
+    sum: u64,
+    house: u64,
+) -> usize
+    requires { ⌜ Wrote (now out) at [] (now out) at × (length (now seats) ≡ length (now populations)) ⌝ }
+    ensures { λ r. ⌜ Wrote (now (out .entry)) at (stateLines (now (word .entry)) (now (rows .entry)) (now (populations .entry)) (now (seats .entry)) sum house (length (now (populations .entry)))) (now (out .exit)) r ⌝ }
+{
+    let mut next = at;
+    let mut row = rows;
+    let mut k = 0;
+    while k < populations.len() {
+        next = put_state(
+            out,
+            next,
+            word,
+            pairs::name_at(row),
+            populations[k],
+            seats[k],
+            sum,
+            house,
+        );
+        let rest = cut::rest(row);
+        row = rest;
+        k += 1;
+    }
+    next
+}
+
+// The seats of a state if it moves. The bound by the house keeps any number from passing 64 bits.
+fn seats_if_moved(adds: bool, seats: u64, house: u64) -> u64
+    ensures { λ r. ⌜ r ≡ seatsIfMoved adds seats house ⌝ }
+{
+    if adds {
+        if seats < house {
+            return seats + 1;
+        }
+        return house;
+    }
+    if seats == 0 {
+        return 0;
+    }
+    seats - 1
+}
+
+// A state with its seats and departure before a move and after it.
+fn put_moved(
+    out: &mut [u8],
+    at: usize,
+    name: &[u8],
+    population: u64,
+    from: u64,
+    to: u64,
+    sum: u64,
+    house: u64,
+) -> usize
+    ensures { λ r. ⌜ Wrote (now (out .entry)) at (movedText (now (name .entry)) population from to sum house) (now (out .exit)) r ⌝ }
+{
+    let named = text::put_bytes(out, at, name);
+    let numbers = text::put_numbers(out, named, from, to);
+    let comma = text::put_byte(out, numbers, b',');
+    let old = put_departure(out, comma, population, from, sum, house);
+    let next = text::put_byte(out, old, b',');
+    put_departure(out, next, population, to, sum, house)
+}
+
+// A state weighed before a step: as it is, and as it would be if it moved.
+fn put_weighed(
+    out: &mut [u8],
+    at: usize,
+    step: u64,
+    name: &[u8],
+    population: u64,
+    seats: u64,
+    moved: u64,
+    sum: u64,
+    house: u64,
+) -> usize
+    ensures { λ r. ⌜ Wrote (now (out .entry)) at (weighedLine step (now (name .entry)) population seats moved sum house) (now (out .exit)) r ⌝ }
+{
+    let word = text::put_bytes(out, at, b"weighed,");
+    let number = text::put_decimal(out, word, step);
+    let comma = text::put_byte(out, number, b',');
+    let shown = put_moved(out, comma, name, population, seats, moved, sum, house);
+    text::put_byte(out, shown, b'\n')
+}
+
+// Every state weighed before a step that adds a seat or withdraws one.
+pub fn put_weighings(
+    out: &mut [u8],
+    at: usize,
+    step: u64,
+    adds: bool,
+    rows: &[u8],
+    populations: &[u64],
+    seats: &[u64],
+    sum: u64,
+    house: u64,
+) -> usize
+    requires { ⌜ Wrote (now out) at [] (now out) at × (length (now seats) ≡ length (now populations)) ⌝ }
+    ensures { λ r. ⌜ Wrote (now (out .entry)) at (weighedLines step adds (now (rows .entry)) (now (populations .entry)) (now (seats .entry)) sum house (length (now (populations .entry)))) (now (out .exit)) r ⌝ }
+{
+    let mut next = at;
+    let mut row = rows;
+    let mut k = 0;
+    while k < populations.len() {
+        let held = seats[k];
+        next = put_weighed(
+            out,
+            next,
+            step,
+            pairs::name_at(row),
+            populations[k],
+            held,
+            seats_if_moved(adds, held, house),
+            sum,
+            house,
+        );
+        let rest = cut::rest(row);
+        row = rest;
+        k += 1;
+    }
+    next
+}
+
+// What the state does that goes from so many seats to so many.
+fn put_verb(out: &mut [u8], at: usize, from: u64, to: u64) -> usize
+    ensures { λ r. ⌜ Wrote (now (out .entry)) at (verbText from to) (now (out .exit)) r ⌝ }
+{
+    if from < to {
+        return text::put_bytes(out, at, b",gains,");
+    }
+    text::put_bytes(out, at, b",gives up,")
+}
+
+// A step: the state that moved, with its seats and departures before and after, and the total afterwards.
+pub fn put_step(
+    out: &mut [u8],
+    at: usize,
+    step: u64,
+    name: &[u8],
+    population: u64,
+    from: u64,
+    to: u64,
+    sum: u64,
+    house: u64,
+    total: u64,
+) -> usize
+    ensures { λ r. ⌜ Wrote (now (out .entry)) at (stepLine step (now (name .entry)) population from to sum house total) (now (out .exit)) r ⌝ }
+{
+    let word = text::put_bytes(out, at, b"step,");
+    let number = text::put_decimal(out, word, step);
+    let verb = put_verb(out, number, from, to);
+    let shown = put_moved(out, verb, name, population, from, to, sum, house);
+    let comma = text::put_byte(out, shown, b',');
+    let all = text::put_decimal(out, comma, total);
+    text::put_byte(out, all, b'\n')
+}
