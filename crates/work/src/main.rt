@@ -13,7 +13,7 @@ use placing::Placing;
 // One byte more than a register may have, so that a longer input is told from one that just fits.
 const INPUT_ROOM: usize = 65_537;
 
-// Room for the longest block there is: 250 states weighed, at most 76 bytes each, and a step.
+// Room for the longest block there is: 250 states weighed, at most 75 bytes each, and a step.
 const PAGE_ROOM: usize = 32_768;
 
 // Prints what was written to the front of a page, up to the place that writing handed back.
