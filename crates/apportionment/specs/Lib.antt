@@ -3,6 +3,7 @@ pub mod Limits
 pub mod Refusals
 pub mod Lists
 pub mod Text
+pub mod Methods
 pub mod Quantities
 pub mod Leximin
 pub mod Divisor

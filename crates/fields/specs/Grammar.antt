@@ -10,7 +10,7 @@ use native.Mathlib.Omega.{arith}
 use lib.Dec.{eqb}
 use lib.ListN.{length, getD, take, drop, drop-of-length-le}
 use Rattle.apportionment.specs.Lists.{sameList}
-use Rattle.apportionment.specs.Text.{bytesOf}
+use Rattle.apportionment.specs.Methods.{methodText}
 use Rattle.apportionment.specs.Allotment.{within}
 use Rattle.apportionment.specs.declared.Method.{Method}
 use Rattle.apportionment.specs.declared.Method.the-variants.{Leximin, Adams, Dean, Hill, Webster, Jefferson, Remainders}
@@ -135,16 +135,6 @@ name-length f name = within-limits wordLimit (length f) (both (within wordLimit 
 -- A method field: 1 to 32 bytes from 33 to 126.
 unfoldable pub isMethodField : List ℕ → Bool
 isMethodField f = cond (within wordLimit (length f)) (allBetween 33 126 f) false
-
--- The word of a method.
-unfoldable pub methodText : Method → List ℕ
-methodText Leximin = bytesOf "leximin"
-methodText Adams = bytesOf "adams"
-methodText Dean = bytesOf "dean"
-methodText Hill = bytesOf "hill"
-methodText Webster = bytesOf "webster"
-methodText Jefferson = bytesOf "jefferson"
-methodText Remainders = bytesOf "remainders"
 
 -- The method that a field names.
 unfoldable pub methodNamed : List ℕ → Named

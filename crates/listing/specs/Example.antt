@@ -44,7 +44,6 @@ use Rattle.apportionment.specs.Allotment.{
   seatsOf,
 }
 use Rattle.fields.specs.Parts.{placeOf, has, before, after, allBetween}
-use Rattle.fields.specs.Grammar as Grammar
 use Rattle.fields.specs.Grammar.{
   ended,
   lastByte,
@@ -90,7 +89,8 @@ use Rattle.register.specs.Register.{
   readingOf,
 }
 use Rattle.register.specs.Names.{linesAfter, nameRefusalIn, nameRefusalOf, nameOf}
-use Rattle.text.specs.Words.{methodText, numbersText, totalLine}
+use Rattle.apportionment.specs.Methods.{methodText}
+use Rattle.text.specs.Shared.{numbersText, totalLine}
 use Rattle.listing.specs.Listing.{
   headLine,
   departureText,
@@ -134,7 +134,7 @@ unfolding printedOf listedOf listedIn fittedOf listingOf listingIn numbersText h
     hundredthsText shownText markOf markText sizesOf insert largestFirst listLess moreAtFirst sizeList chosenBefore withFirst allotments
     firstOf firstOfAll leximinFor within hasZero seatsEveryState problemRefusal orElse houseRefusal allotRefusal seatsOf placeOf has before after
     allBetween ended lastByte withoutReturn lineOf restOf fieldOf fieldsAfter isNumber valueFrom valueOf isName isMethodField methodNamed
-    Grammar.methodText methodField houseField countField isHead headRefused headSays headOf nameAt numberField numberAt isPair isStateLine isClosingLine usedIn
+    methodField houseField countField isHead headRefused headSays headOf nameAt numberField numberAt isPair isStateLine isClosingLine usedIn
     stateRefusal closingRefusal noPopulations Register.refused accepts endOf closingOf statesFrom statesOf linesOf readingOf linesAfter
     nameRefusalIn nameRefusalOf nameOf
 example-printed = refl

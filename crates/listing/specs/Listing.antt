@@ -13,7 +13,8 @@ use Rattle.apportionment.specs.Text.{bytesOf, decimal}
 use Rattle.apportionment.specs.Quantities.{shownOf, shownText, sizeOf, markOf, markText}
 use Rattle.apportionment.specs.Allotment.{allotRefusal, seatsOf}
 use Rattle.apportionment.specs.declared.Method.{Method}
-use Rattle.text.specs.Words.{methodText, numbersText, totalLine, refusalLine}
+use Rattle.apportionment.specs.Methods.{methodText}
+use Rattle.text.specs.Shared.{numbersText, totalLine, refusalLine}
 use Rattle.register.specs.Register.{readingOf}
 use Rattle.register.specs.Names.{nameOf}
 use Rattle.register.specs.declared.Reading.{Reading}

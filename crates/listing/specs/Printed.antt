@@ -12,7 +12,7 @@ use lib.ListN.{length, drop, length-append}
 use lib.Seq.{take-at}
 use Rattle.apportionment.specs.Refusals.{accepted, bufferTooShort}
 use Rattle.text.specs.Bounds.{refusal-line-length}
-use Rattle.text.specs.Words.{refusalLine}
+use Rattle.text.specs.Shared.{refusalLine}
 use Rattle.text.specs.Writing.{Wrote, AtFront, wrote-front}
 use Rattle.register.specs.Register.{readingOf}
 use Rattle.listing.specs.declared.Listed.{Listed}

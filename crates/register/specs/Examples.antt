@@ -11,7 +11,8 @@ use Rattle.apportionment.specs.Text.{bytesOf}
 use Rattle.apportionment.specs.Allotment.{within}
 use Rattle.apportionment.specs.declared.Method.the-variants.{Leximin}
 use Rattle.fields.specs.Parts.{placeOf, has, before, after, allBetween}
-use Rattle.fields.specs.Grammar.{lineFeed, ended, lastByte, withoutReturn, lineOf, restOf, fieldOf, fieldsAfter, isNumber, valueFrom, valueOf, isName, isMethodField, methodText, methodNamed}
+use Rattle.apportionment.specs.Methods.{methodText}
+use Rattle.fields.specs.Grammar.{lineFeed, ended, lastByte, withoutReturn, lineOf, restOf, fieldOf, fieldsAfter, isNumber, valueFrom, valueOf, isName, isMethodField, methodNamed}
 use Rattle.lines.specs.Lines.{methodField, houseField, countField, isHead, headRefused, headSays, headOf, nameAt, numberField, numberAt, isPair, isStateLine, isClosingLine, usedIn, stateRefusal, closingRefusal}
 use Rattle.register.specs.Register.{noPopulations, refused, accepts, endOf, closingOf, statesFrom, statesOf, linesOf, readingOf}
 use Rattle.register.specs.Names.{linesAfter, nameRefusalIn, nameRefusalOf, nameOf}

@@ -21,7 +21,7 @@ use Rattle.departure.specs.declared.Answer.{Answer}
 use Rattle.departure.specs.declared.Answer.the-variants.{Refused, NoSeats, Shown}
 use Rattle.lines.specs.Lines.{nameAt}
 use Rattle.register.specs.Names.{linesAfter}
-use Rattle.text.specs.Words.{numbersText, totalLine}
+use Rattle.text.specs.Shared.{numbersText, totalLine}
 use Rattle.placing.specs.declared.Placing.{Placing}
 
 -- ---- departures

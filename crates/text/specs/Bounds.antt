@@ -15,7 +15,8 @@ use Rattle.apportionment.specs.declared.Mark.{Mark}
 use Rattle.apportionment.specs.declared.Mark.the-variants.{In, High, Over, None}
 use Rattle.apportionment.specs.declared.Method.{Method}
 use Rattle.apportionment.specs.declared.Method.the-variants.{Leximin, Adams, Dean, Hill, Webster, Jefferson, Remainders}
-use Rattle.text.specs.Words.{methodText, numbersText, totalLine, refusalLine}
+use Rattle.apportionment.specs.Methods.{methodText}
+use Rattle.text.specs.Shared.{numbersText, totalLine, refusalLine}
 use Rattle.text.specs.Decimal.{decimal-one, decimal-more}
 
 -- A number below 10 ^ (k + 1) has at most k + 1 digits.

@@ -1,5 +1,5 @@
 -- What it means that text was written into a lent buffer, the words that are written, and how long a piece of text can be.
 pub mod Writing
-pub mod Words
+pub mod Shared
 pub mod Decimal
 pub mod Bounds

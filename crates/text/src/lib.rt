@@ -10,9 +10,10 @@ ghost use lib.Dec.{leb};
 ghost use lib.IntN.{natAbs};
 ghost use lib.ListN.{length};
 ghost use Rattle.apportionment.specs.Text.{decimal, digit};
+ghost use Rattle.apportionment.specs.Methods.{methodText};
 ghost use Rattle.apportionment.specs.Quantities.{hundredthsText, shownText, markText};
 ghost use Rattle.text.specs.Writing.{Wrote, copiedOut};
-ghost use Rattle.text.specs.Words.{methodText, numbersText, totalLine, refusalLine};
+ghost use Rattle.text.specs.Shared.{numbersText, totalLine, refusalLine};
 
 // One byte.
 pub fn put_byte(out: &mut [u8], at: usize, byte: u8) -> usize

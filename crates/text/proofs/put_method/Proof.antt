@@ -1,7 +1,7 @@
 -- `text::put_method` meets its contract: each arm writes the word of its method.
 -- Assumes nothing.
 use borrow.Author.Needs.{needs}
-use Rattle.text.specs.Words.{methodText}
+use Rattle.apportionment.specs.Methods.{methodText}
 use Rattle.text.proofs.put_method.Statement.{statement}
 use Rattle.text.proofs.put_method.Tie as tie
 

@@ -1,7 +1,7 @@
 -- `text::put_refusal` meets its contract: the word, the numbers and the line end, one after the other.
 -- Assumes nothing.
 use Rattle.text.specs.Writing.{wrote-then}
-use Rattle.text.specs.Words.{refusalLine}
+use Rattle.text.specs.Shared.{refusalLine}
 use borrow.Author.Needs.{needs}
 use Rattle.text.proofs.put_refusal.Statement.{statement}
 use Rattle.text.proofs.put_refusal.Tie as tie

@@ -4,7 +4,8 @@ use mathlib.Core.Path.{_≡_, sym, _∙_}
 use mathlib.Core.Bool.{false}
 use Rattle.apportionment.specs.Lists.{sameList}
 use Rattle.apportionment.specs.Text.{bytesOf}
-use Rattle.fields.specs.Grammar.{methodNamed, methodText}
+use Rattle.apportionment.specs.Methods.{methodText}
+use Rattle.fields.specs.Grammar.{methodNamed}
 use borrow.Author.Needs.{needs}
 use Rattle.fields.proofs.words.method_named.Statement.{statement}
 use Rattle.fields.proofs.words.method_named.Tie as tie
