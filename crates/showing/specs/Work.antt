@@ -26,7 +26,7 @@ use Rattle.placing.specs.declared.Placing.{Placing}
 
 -- ---- departures
 
--- A departure as text: the shown one, or `none` where there is none.
+-- A departure as text: the shown one, or `none` where there is none, be it for want of a seat or because the numbers are outside their limits.
 unfoldable pub answerText : Answer → List ℕ
 answerText Refused = bytesOf "none"
 answerText NoSeats = bytesOf "none"
@@ -127,7 +127,7 @@ difference-later xs ys left next i one same = rw (one, eq-eqb (getD xs i 0) (get
 
 -- ---- the blocks
 
--- The states that a placing holds. It has places for no more than the limit, and opening and stepping give none that says so.
+-- The states that a placing holds: as many as it says, and no more than it has places for. Opening and stepping never say more.
 unfoldable pub statesIn : Placing → ℕ
 statesIn p = min (p .states) stateLimit
 

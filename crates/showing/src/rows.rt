@@ -8,7 +8,8 @@ ghost use lib.ListN.{length};
 ghost use Rattle.text.specs.Writing.{Wrote};
 ghost use Rattle.showing.specs.Work.{departureText, headLine, stateLine, stateLines, seatsIfMoved, movedText, weighedLine, weighedLines, verbText, stepLine};
 
-// The shown departure of a state, or `none` where it has no seat.
+// The shown departure of a state, or `none` where it has no seat. Numbers outside their limits, which no placing that opening gave holds,
+// have no departure either.
 fn put_departure(
     out: &mut [u8],
     at: usize,
