@@ -1,33 +1,26 @@
 // Runs registers at the edges of every refusal of reading, of writing a listing and of naming a state, and compares. A line for each case:
-// what it is, then the answer. Each expected answer stands beside its case, and any other answer ends in `,DIFFERS`.
+// what it is, then the answer; one that is not the expected answer ends in `DIFFERS`.
+//
+// The short registers stand in the file `stdin`, a case a line: `read` or `list`, what it is, the register and the expected answer, parted
+// by bars. There `/` stands for LF, `\` for CR, `<` for byte 31 and `>` for byte 127. Any other line is a heading.
 mod answers;
-mod build;
+mod buffers;
+mod cases;
 mod compare;
-mod fields_of_lines;
-mod limits;
+mod long;
 mod names;
-mod whole;
-mod writing;
+
+use libc::STDIN_FILENO;
+
+// Room for the file `stdin`.
+const INPUT_ROOM: usize = 16_384;
 
 fn main() {
-    whole::lengths();
-    whole::ends();
-    whole::counts();
-    fields_of_lines::names();
-    fields_of_lines::numbers();
-    fields_of_lines::fields();
-    fields_of_lines::words();
-    limits::houses();
-    limits::states();
-    limits::populations();
-    limits::totals();
-    limits::methods();
-    names::used_twice();
-    limits::sums();
-    limits::closing_totals();
-    whole::accepted();
-    whole::seven_methods();
-    writing::document_01();
-    writing::listings();
+    let mut input = [0u8; INPUT_ROOM];
+    let length = io::read_full(STDIN_FILENO, &mut input);
+    cases::run_all(&input[..length]);
+    long::lengths();
+    long::states();
+    buffers::lent();
     names::places();
 }

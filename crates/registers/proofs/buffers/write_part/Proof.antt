@@ -4,8 +4,8 @@ use mathlib.Core.Path.{sym}
 use native.Mathlib.Omega.{arith}
 use lib.Seq.{length-take-le}
 use borrow.Author.Needs.{needs}
-use Rattle.registers.proofs.writing.write_part.Statement.{statement}
-use Rattle.registers.proofs.writing.write_part.Tie as tie
+use Rattle.registers.proofs.buffers.write_part.Statement.{statement}
+use Rattle.registers.proofs.buffers.write_part.Tie as tie
 
 slice-relend-prefix-write-listing : tie.Need-slice-relend-prefix-write-listing
 slice-relend-prefix-write-listing c = search needs
