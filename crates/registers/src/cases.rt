@@ -1,6 +1,13 @@
-// The cases of the file `stdin`, a line each.
+// The cases of the file `stdin`, a line each: an operation, what the case is, the register and the expected answer, parted by bars. There
+// `/` stands for LF, `\` for CR, `<` for byte 31 and `>` for byte 127. Any other line is a heading. The operations are
+//
+// - `read`: reads the register;
+// - `fill` and `over`: read the register with letters after it, 65,536 and 65,537 bytes in all;
+// - `list`: lists the register;
+// - `name`: the names at the places 0, 1, 2 and the highest there is, each in brackets and after its refusal, if any.
 use crate::answers::front;
 use crate::compare;
+use apportionment::REGISTER_LIMIT;
 use fields::cut::rest;
 use fields::parts::after;
 use fields::parts::before;
@@ -27,28 +34,40 @@ pub fn run_all(lines: &[u8]) {
 fn run(line: &[u8]) {
     let mut page = [0u8; LINE_ROOM];
     let size = put_meant(&mut page, line);
-    run_meant(front(&page, size));
+    let meant = front(&page, size);
+    let case = after(meant, BAR);
+    if case.len() == 0 {
+        compare::heading(meant);
+        return;
+    }
+    let register = after(case, BAR);
+    run_case(
+        before(meant, BAR),
+        before(case, BAR),
+        before(register, BAR),
+        after(register, BAR),
+    );
 }
 
-// A line whose signs were replaced by what they stand for.
-fn run_meant(line: &[u8]) {
-    let operation = before(line, BAR);
-    let after_operation = after(line, BAR);
-    let case = before(after_operation, BAR);
-    let after_case = after(after_operation, BAR);
-    let register = before(after_case, BAR);
-    let expected = after(after_case, BAR);
+fn run_case(operation: &[u8], case: &[u8], register: &[u8], expected: &[u8]) {
     if same(operation, b"read") {
         compare::reads(case, register, expected);
-        return;
+    }
+    if same(operation, b"fill") {
+        compare::reads_filled(case, register, REGISTER_LIMIT, expected);
+    }
+    if same(operation, b"over") {
+        compare::reads_filled(case, register, REGISTER_LIMIT + 1, expected);
     }
     if same(operation, b"list") {
-        compare::prints(case, register, expected);
-        return;
+        compare::lists(case, register, expected);
     }
-    compare::heading(line);
+    if same(operation, b"name") {
+        compare::names(case, register, expected);
+    }
 }
 
+// A line whose signs are replaced by the bytes that they stand for.
 fn put_meant(out: &mut [u8], line: &[u8]) -> usize {
     let mut next = 0;
     let mut i = 0;
@@ -59,7 +78,6 @@ fn put_meant(out: &mut [u8], line: &[u8]) -> usize {
     next
 }
 
-// The byte that a sign stands for.
 fn meant(sign: u8) -> u8 {
     if sign == b'/' {
         return LF;

@@ -4,7 +4,6 @@ use crate::answers::ANSWER_ROOM;
 use crate::answers::front;
 use fields::parts::same;
 use libc::STDOUT_FILENO;
-use listing::LISTING_ROOM;
 
 pub fn heading(words: &[u8]) {
     io::write_all(STDOUT_FILENO, words);
@@ -15,6 +14,20 @@ pub fn heading(words: &[u8]) {
 pub fn reads(case: &[u8], register: &[u8], expected: &[u8]) {
     let mut page = [0u8; ANSWER_ROOM];
     let size = answers::put_reading(&mut page, register::read(register));
+    answered(case, front(&page, size), expected);
+}
+
+// Reads a register with letters after it up to a length of at most 65,537.
+pub fn reads_filled(case: &[u8], register: &[u8], length: usize, expected: &[u8]) {
+    let mut bytes = [97u8; 65_537];
+    text::put_bytes(&mut bytes, 0, register);
+    reads(case, front(&bytes, length), expected);
+}
+
+// Names the states at some places of a register.
+pub fn names(case: &[u8], register: &[u8], expected: &[u8]) {
+    let mut page = [0u8; ANSWER_ROOM];
+    let size = answers::put_names(&mut page, register);
     answered(case, front(&page, size), expected);
 }
 
@@ -30,14 +43,11 @@ pub fn answered(case: &[u8], answer: &[u8], expected: &[u8]) {
     }
 }
 
-// Prints what the allotment program prints for a register.
-pub fn prints(case: &[u8], register: &[u8], expected: &[u8]) {
-    let mut page = [0u8; LISTING_ROOM];
-    let size = listing::print(register, &mut page);
-    printed(case, &page[..size], expected);
-}
-
-fn printed(case: &[u8], lines: &[u8], expected: &[u8]) {
+// Lists a register, whose listing stands on lines of its own.
+pub fn lists(case: &[u8], register: &[u8], expected: &[u8]) {
+    let mut page = [0u8; ANSWER_ROOM];
+    let size = answers::put_listing(&mut page, register);
+    let lines = front(&page, size);
     io::write_all(STDOUT_FILENO, case);
     io::write_all(STDOUT_FILENO, b":\n");
     io::write_all(STDOUT_FILENO, lines);

@@ -1,37 +1,12 @@
-// Registers that are too long to write out.
+// Registers of many states, which are too long to write out.
 use crate::answers::front;
 use crate::compare::heading;
 use crate::compare::reads;
-use apportionment::REGISTER_LIMIT;
 
 // Room for a register of 251 states.
 const STATES_ROOM: usize = 2_048;
 
-pub fn lengths() {
-    heading(b"1, at most 65536 bytes");
-    let mut bytes = [97u8; 65_537];
-    at_the_limit(
-        &bytes,
-        b"65536 bytes and no line end",
-        b"65537 bytes and no line end",
-        b"refused,2,1",
-    );
-    text::put_bytes(&mut bytes, 0, b"register,webster,5,1\nA,3\ntotal,3\n");
-    at_the_limit(
-        &bytes,
-        b"a register, then other bytes, 65536 in all",
-        b"a register, then other bytes, 65537 in all",
-        b"refused,2,4",
-    );
-}
-
-// Reads all of 65,537 bytes but the last, which gives what is expected; then all, which is 1 whatever they are.
-fn at_the_limit(bytes: &[u8], shorter: &[u8], longer: &[u8], expected: &[u8]) {
-    reads(shorter, front(bytes, REGISTER_LIMIT), expected);
-    reads(longer, bytes, b"refused,1,0");
-}
-
-pub fn states() {
+pub fn many_states() {
     heading(b"3 and 5, many states");
     many(b"250 states", 250, 250, b"read,webster,250,250,250");
     many(b"251 states", 251, 251, b"refused,3,1");

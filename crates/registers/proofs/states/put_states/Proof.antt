@@ -5,8 +5,8 @@ use Prim.Native.Nat.{_-_}
 use lib.ListN.{length}
 use native.Mathlib.Omega.{arith}
 use borrow.Author.Needs.{needs}
-use Rattle.registers.proofs.long.put_states.Statement.{statement}
-use Rattle.registers.proofs.long.put_states.Tie as tie
+use Rattle.registers.proofs.states.put_states.Statement.{statement}
+use Rattle.registers.proofs.states.put_states.Tie as tie
 
 abbrev Inv-loop : tie.InvT-loop
 Inv-loop out₀ at n next₀ k₀ out next k = length out ≡ length out₀
