@@ -1,10 +1,10 @@
 // The cases of the file `stdin`, a line each: an operation, what the case is, the register and the expected answer, parted by bars. There
 // `/` stands for LF, `\` for CR, `<` for byte 31 and `>` for byte 127. Any other line is a heading. The operations are
 //
-// - `read`: reads the register;
 // - `fill` and `over`: read the register with letters after it, 65,536 and 65,537 bytes in all;
 // - `list`: lists the register;
-// - `name`: the names at the places 0, 1, 2 and the highest there is, each in brackets and after its refusal, if any.
+// - `name`: the names at the places 0, 1, 2 and the highest there is, each in brackets and after its refusal, if any;
+// - `read`, or any other word: reads the register.
 use crate::answers::front;
 use crate::compare;
 use apportionment::REGISTER_LIMIT;
@@ -50,21 +50,23 @@ fn run(line: &[u8]) {
 }
 
 fn run_case(operation: &[u8], case: &[u8], register: &[u8], expected: &[u8]) {
-    if same(operation, b"read") {
-        compare::reads(case, register, expected);
-    }
     if same(operation, b"fill") {
         compare::reads_filled(case, register, REGISTER_LIMIT, expected);
+        return;
     }
     if same(operation, b"over") {
         compare::reads_filled(case, register, REGISTER_LIMIT + 1, expected);
+        return;
     }
     if same(operation, b"list") {
         compare::lists(case, register, expected);
+        return;
     }
     if same(operation, b"name") {
         compare::names(case, register, expected);
+        return;
     }
+    compare::reads(case, register, expected);
 }
 
 // A line whose signs are replaced by the bytes that they stand for.
