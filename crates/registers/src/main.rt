@@ -1,5 +1,5 @@
 // Runs registers at the edges of every refusal of reading, of writing a listing and of naming a state, and compares. A line for each case:
-// what it is, then the answer; one that is not the expected answer ends in `DIFFERS`.
+// what it is, then the answer; `DIFFERS` follows an answer that is not the expected one.
 //
 // Most cases stand in the file `stdin`, a line each, which `cases` explains; the others are built here.
 mod answers;
