@@ -16,9 +16,8 @@ pub fn put_reading(out: &mut [u8], reading: Reading) -> usize {
     let method = reading.method;
     let word = text::put_bytes(out, 0, b"read,");
     let named = text::put_method(out, word, method);
-    let house = put_number(out, named, reading.house);
-    let states = put_number(out, house, reading.states as u64);
-    put_number(out, states, reading.total)
+    let numbers = text::put_numbers(out, named, reading.house, reading.states as u64);
+    put_number(out, numbers, reading.total)
 }
 
 // The listing of a register, or its refusal and a LF.
@@ -83,8 +82,7 @@ pub fn front(page: &[u8], size: usize) -> &[u8] {
 
 fn put_refusal(out: &mut [u8], at: usize, number: u64, line: u64) -> usize {
     let word = text::put_bytes(out, at, b"refused");
-    let numbered = put_number(out, word, number);
-    put_number(out, numbered, line)
+    text::put_numbers(out, word, number, line)
 }
 
 fn put_number(out: &mut [u8], at: usize, n: u64) -> usize {

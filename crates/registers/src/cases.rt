@@ -9,8 +9,7 @@ use crate::answers::front;
 use crate::compare;
 use apportionment::REGISTER_LIMIT;
 use fields::cut::rest;
-use fields::parts::after;
-use fields::parts::before;
+use fields::parts::place_of;
 use fields::parts::same;
 
 const LF: u8 = 10;
@@ -29,6 +28,20 @@ pub fn run_all(lines: &[u8]) {
         let u = rest(t);
         t = u;
     }
+}
+
+// What stands before the first byte `b`, or all where there is none.
+fn before(s: &[u8], b: u8) -> &[u8] {
+    front(s, place_of(s, b))
+}
+
+// What stands after the first byte `b`, or nothing where there is none.
+fn after(s: &[u8], b: u8) -> &[u8] {
+    let place = place_of(s, b);
+    if place < s.len() {
+        return &s[place + 1..];
+    }
+    &s[..0]
 }
 
 fn run(line: &[u8]) {

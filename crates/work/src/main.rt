@@ -6,12 +6,7 @@ use apportionment::STATE_LIMIT;
 use apportionment::refusals::ACCEPTED;
 use fields::cut;
 use libc::STDERR_FILENO;
-use libc::STDIN_FILENO;
-use libc::STDOUT_FILENO;
 use placing::Placing;
-
-// One byte more than a register may have, so that a longer input is told from one that just fits.
-const INPUT_ROOM: usize = 65_537;
 
 // Room for the longest block there is: 250 states weighed, at most 75 bytes each, and a step.
 const PAGE_ROOM: usize = 32_768;
@@ -19,7 +14,7 @@ const PAGE_ROOM: usize = 32_768;
 // Prints what was written to the front of a page, up to the place that writing handed back.
 fn print(page: &[u8], size: usize) {
     if size <= page.len() {
-        io::write_all(STDOUT_FILENO, &page[..size]);
+        streams::print(&page[..size]);
         return;
     }
     io::write_all(STDERR_FILENO, b"work: a block is longer than its page\n");
@@ -87,29 +82,27 @@ fn show(register: &[u8]) {
     print_end(rows, end, reading.total);
 }
 
-fn show_from(fd: i32) {
-    let mut input = [0u8; INPUT_ROOM];
-    let length = io::read_full(fd, &mut input);
-    show(&input[..length]);
+fn show_standard_input() {
+    let mut register = [0u8; streams::REGISTER_ROOM];
+    let input = streams::read_standard_input(&mut register);
+    if input.whole {
+        show(&register[..input.length]);
+    }
 }
 
 // Shows the work of the register in the file that an argument names.
 fn show_file(argument: usize) {
-    let mut path = io::buffer();
-    let length = os::arg(argument, &mut path);
-    let fd = os::open_read(&path[..length]);
-    if fd < 0 {
-        os::fail(&path[..length]);
-        return;
+    let mut register = [0u8; streams::REGISTER_ROOM];
+    let input = streams::read_argument(argument, &mut register);
+    if input.whole {
+        show(&register[..input.length]);
     }
-    show_from(fd);
-    libc::close(fd);
 }
 
 fn main() {
     let count = os::arg_count();
     if count < 2 {
-        show_from(STDIN_FILENO);
+        show_standard_input();
         return;
     }
     let mut k = 1;

@@ -14,8 +14,8 @@ abbrev μ-loop : tie.MeasureT-loop
 arg-count-requires : tie.Need-arg-count-requires Inv-loop μ-loop
 arg-count-requires c κs = search needs
 
-show-from-requires : tie.Need-show-from-requires Inv-loop μ-loop
-show-from-requires c κs = search needs
+show-standard-input-requires : tie.Need-show-standard-input-requires Inv-loop μ-loop
+show-standard-input-requires c κs = search needs
 
 returns : tie.Need-returns Inv-loop μ-loop
 returns c = search needs
@@ -45,7 +45,7 @@ main-spec =
     Inv-loop
     μ-loop
     arg-count-requires
-    show-from-requires
+    show-standard-input-requires
     returns
     loop-holds
     show-file-requires

@@ -1,0 +1,32 @@
+-- `allotment::print_listing` is safe: what is printed is within the page.
+-- Assumes nothing.
+use mathlib.Core.Path.{sym}
+use lib.Seq.{length-take-le}
+use borrow.Author.Needs.{needs}
+use Rattle.allotment.proofs.print_listing.Statement.{statement}
+use Rattle.allotment.proofs.print_listing.Tie as tie
+
+print-requires : tie.Need-print-requires
+print-requires c κs = search needs
+
+array-share-prefix-page : tie.Need-array-share-prefix-page
+array-share-prefix-page c = search needs
+
+slice-aggregate-print : tie.Need-slice-aggregate-print
+slice-aggregate-print c = sym (length-take-le _ _ (c .before .print .ensures .within))
+
+print-requires-2 : tie.Need-print-requires-2
+print-requires-2 c κs = search needs
+
+returns : tie.Need-returns
+returns c = search needs
+
+pub print-listing-spec : {M : Type 1} → statement M
+print-listing-spec =
+    tie.close
+    (tie.spec
+    print-requires
+    array-share-prefix-page
+    slice-aggregate-print
+    print-requires-2
+    returns)
