@@ -18,13 +18,22 @@ total-of-requires : tie.Need-total-of-requires
 total-of-requires c κs = search needs
 
 fill-seats-requires : tie.Need-fill-seats-requires
-fill-seats-requires c κs = (allot-passed _ _ _ _ (sym (c .before .before .before .allot-refusal .ensures) ∙ c .before .before .if1 .left), c .before .total-of .ensures ∙ total-is-sum _ (allot-passed _ _ _ _ (sym (c .before .before .before .allot-refusal .ensures) ∙ c .before .before .if1 .left) .problem .sumWithin))
+fill-seats-requires c κs = (
+  allot-passed _ _ _ _ (sym (c .before .before .before .allot-refusal .ensures) ∙ c .before .before .if1 .left),
+  c .before .total-of .ensures ∙ total-is-sum _
+      (allot-passed _ _ _ _
+      (sym (c .before .before .before .allot-refusal .ensures) ∙ c .before .before .if1 .left) .problem .sumWithin),
+)
 
 same-length : tie.Need-same-length
 same-length c = search needs
 
 returns-2 : tie.Need-returns-2
-returns-2 c = accepted-filled (c .before .before .before .before .before .before .allot-refusal .ensures) (c .before .before .before .before .before .if1 .left) (c .before .before .fill-seats .ensures)
+returns-2 c =
+    let at-fill-seats = c .before .before in
+    let at-if1 = at-fill-seats .before .before .before in
+    let at-allot-refusal = at-if1 .before in
+    accepted-filled (at-allot-refusal .allot-refusal .ensures) (at-if1 .if1 .left) (at-fill-seats .fill-seats .ensures)
 
 pub allot-spec : {M : Type 1} → statement M
 allot-spec =

@@ -9,13 +9,24 @@ enum-told : tie.Need-enum-told
 enum-told c = search needs
 
 fill-leximin-requires : tie.Need-fill-leximin-requires
-fill-leximin-requires c κs = (record { problem = c .before .before .before .before .before .pre .0 .problem; sums = c .before .before .before .before .before .pre .1 }, c .before .before .before .before .before .pre .0 .seatForEach (every (c .before .before .before .before .before .args .method) (c .before .enum-told .given .1)), c .before .before .before .before .before .pre .0 .roomFits)
+fill-leximin-requires c κs =
+    let start = c .before .before .before .before .before in (
+      record { problem = start .pre .0 .problem; sums = start .pre .1 },
+      start .pre .0 .seatForEach (every (start .args .method) (c .before .enum-told .given .1)),
+      start .pre .0 .roomFits,
+    )
 
 same-length : tie.Need-same-length
 same-length c = search needs
 
 returns : tie.Need-returns
-returns c = leximin-filled (c .before .before .before .before .before .before .before .before .args .method) _ _ (c .before .before .before .before .enum-told .given .1) (c .before .before .fill-leximin .ensures .seats) (c .before .before .fill-leximin .ensures .steps)
+returns c =
+    let at-fill-leximin = c .before .before in
+    let at-enum-told = at-fill-leximin .before .before in
+    let start = at-enum-told .before .before .before .before in
+    leximin-filled (start .args .method) _ _ (at-enum-told .enum-told .given .1)
+    (at-fill-leximin .fill-leximin .ensures .seats)
+    (at-fill-leximin .fill-leximin .ensures .steps)
 
 enum-told-2 : tie.Need-enum-told-2
 enum-told-2 c = search needs
@@ -27,7 +38,12 @@ same-length-2 : tie.Need-same-length-2
 same-length-2 c = search needs
 
 returns-2 : tie.Need-returns-2
-returns-2 c = remainders-filled (c .before .before .before .before .before .before .before .before .before .args .method) _ _ (c .before .before .before .before .enum-told2 .given .1) (c .before .before .fill-remainders .ensures)
+returns-2 c =
+    let at-fill-remainders = c .before .before in
+    let at-enum-told2 = at-fill-remainders .before .before in
+    let start = at-enum-told2 .before .before .before .before .before in
+    remainders-filled (start .args .method) _ _ (at-enum-told2 .enum-told2 .given .1)
+    (at-fill-remainders .fill-remainders .ensures)
 
 fill-divisor-requires : tie.Need-fill-divisor-requires
 fill-divisor-requires c κs = search needs
@@ -36,7 +52,13 @@ same-length-3 : tie.Need-same-length-3
 same-length-3 c = search needs
 
 returns-3 : tie.Need-returns-3
-returns-3 c = signposts-left (c .before .before .before .before .before .before .before .before .args .method) _ _ (c .before .before .before .before .before .match .keys2) (c .before .before .before .before .match2 .keys2) (c .before .before .fill-divisor .ensures)
+returns-3 c =
+    let at-fill-divisor = c .before .before in
+    let at-match2 = at-fill-divisor .before .before in
+    let at-match = at-match2 .before in
+    let start = at-match .before .before .before in
+    signposts-left (start .args .method) _ _ (at-match .match .keys2) (at-match2 .match2 .keys2)
+    (at-fill-divisor .fill-divisor .ensures)
 
 pub fill-seats-spec : {M : Type 1} → statement M
 fill-seats-spec =

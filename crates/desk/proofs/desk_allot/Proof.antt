@@ -20,7 +20,11 @@ same-length : tie.Need-same-length
 same-length c = search needs
 
 returns-2 : tie.Need-returns-2
-returns-2 c = by-method (c .before .before .before .before .before .if1 .left) (c .before .before .before .before .method-at .ensures) (c .before .before .allot .ensures)
+returns-2 c =
+    let at-allot = c .before .before in
+    let at-method-at = at-allot .before .before in
+    let at-if1 = at-method-at .before in
+    by-method (at-if1 .if1 .left) (at-method-at .method-at .ensures) (at-allot .allot .ensures)
 
 pub desk-allot-spec : {M : Type 1} → statement M
 desk-allot-spec =

@@ -11,7 +11,11 @@ name-refusal-requires c κs = search needs
 
 returns : tie.Need-returns
 unfolding partOf partIf
-returns c = rw (rw (c .before .before .name-refusal .ensures) at (ne-eqb _ _ (c .if1 .taken)), c .before .before .name-refusal .ensures)
+returns c =
+    rw (
+      rw (c .before .before .name-refusal .ensures) at (ne-eqb _ _ (c .if1 .taken)),
+      c .before .before .name-refusal .ensures,
+    )
 
 rest-requires : tie.Need-rest-requires
 rest-requires c κs = search needs
@@ -24,11 +28,23 @@ name-at-requires c κs = search needs
 
 sub-start : tie.Need-sub-start
 unfolding stateLine
-sub-start c = rw (c .before .lines-after .ensures, c .before .before .rest .ensures) (line-shorter (c .before .before .before .before .before .before .before .args .bytes .now) (c .before .before .before .before .before .before .before .args .place))
+sub-start c =
+    let at-rest = c .before .before in
+    let start = at-rest .before .before .before .before .before in
+    rw (c .before .lines-after .ensures, at-rest .rest .ensures) (line-shorter (start .args .bytes .now) (start .args .place))
 
 returns-2 : tie.Need-returns-2
 unfolding partOf partIf stateLine
-returns-2 c = rw (c .name-at .ensures, c .before .lines-after .ensures, c .before .before .rest .ensures, rw (c .before .before .before .before .before .name-refusal .ensures) at (eq-eqb _ _ (c .before .before .before .if1 .left)))
+returns-2 c =
+    let at-rest = c .before .before in
+    let at-if1 = at-rest .before in
+    let at-name-refusal = at-if1 .before .before in
+    rw (
+      c .name-at .ensures,
+      c .before .lines-after .ensures,
+      at-rest .rest .ensures,
+      rw (at-name-refusal .name-refusal .ensures) at (eq-eqb _ _ (at-if1 .if1 .left)),
+    )
 
 pub desk-name-spec : {M : Type 1} → statement M
 desk-name-spec =

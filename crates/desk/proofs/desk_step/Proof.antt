@@ -17,7 +17,9 @@ exported-placed-requires : tie.Need-exported-placed-requires
 exported-placed-requires c κs = search needs
 
 returns : tie.Need-returns
-returns c = c .exported-placed .ensures ∙ ap exportedPlaced (c .before .step .ensures ∙ ap steppedOf (c .before .before .inner-placing .ensures))
+returns c =
+    c .exported-placed .ensures ∙ ap exportedPlaced
+    (c .before .step .ensures ∙ ap steppedOf (c .before .before .inner-placing .ensures))
 
 pub desk-step-spec : {M : Type 1} → statement M
 desk-step-spec =

@@ -34,7 +34,8 @@ returns-3 : tie.Need-returns-3
 returns-3 c =
     let shown = c .before .before .answer in
     c .exported-shown .ensures
-    ∙ ap (λ (z : ℤ). exportedAnswer (Shown z (shown .given .0 .1 .0))) (toZ-ofZ w64 (shown .given .0 .0) (record { sfits = c .before .known-told .given .0 .1 }))
+    ∙ ap (λ (z : ℤ). exportedAnswer (Shown z (shown .given .0 .1 .0)))
+    (toZ-ofZ w64 (shown .given .0 .0) (record { sfits = c .before .known-told .given .0 .1 }))
     ∙ sym (ap exportedAnswer (shown .given .1))
 
 pub exported-answer-spec : {M : Type 1} → statement M

@@ -24,7 +24,9 @@ mark-number-requires : tie.Need-mark-number-requires
 mark-number-requires c κs = search needs
 
 returns : tie.Need-returns
-returns c = shown-is _ (c .before .args .hundredths) (c .before .args .mark) _ (toZ-ofZ w64 (c .before .args .hundredths) (c .before .fits .hundredths)) (c .mark-number .ensures)
+returns c =
+    shown-is _ (c .before .args .hundredths) (c .before .args .mark) _
+    (toZ-ofZ w64 (c .before .args .hundredths) (c .before .fits .hundredths)) (c .mark-number .ensures)
 
 pub exported-shown-spec : {M : Type 1} → statement M
 exported-shown-spec = tie.close (tie.spec mark-number-requires returns)

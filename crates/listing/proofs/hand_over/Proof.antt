@@ -1,3 +1,5 @@
+-- `listing::hand_over` meets its contract: the whole listing stands at the front of the page, and copying it fits or leaves the buffer.
+-- Assumes nothing.
 use mathlib.Core.Path.{sym}
 use lib.Seq.{length-take-le}
 use Rattle.text.specs.Writing.{AtFront, wrote-front}
@@ -8,55 +10,50 @@ use Rattle.listing.specs.Listed.{copied-over, too-long}
 use borrow.Author.Needs.{needs}
 use Rattle.listing.proofs.hand_over.Statement.{statement}
 use Rattle.listing.proofs.hand_over.Tie as tie
-use Rattle.listing.proofs.hand_over.Reads as reads
-use Rattle.listing.proofs.hand_over.Lts as lts
-use Rattle.listing.proofs.put_listing.Reads as put-listing-reads
-use Rattle.listing.proofs.refused.Reads as refused-reads
-use Rattle.text.proofs.copy_out.Reads as copy-out-reads
 
 -- The listing stands at the front of the page.
 front-of-page : (c : tie.After-put-listing) → AtFront (listingIn (c .before .before .before .before .before .args .reading) (namesFrom (c .before .before .before .before .before .args .rows .now)) (c .before .before .before .before .before .args .seats .now)) (c .put-listing .last .0) (c .put-listing .result)
-front-of-page c = wrote-front (c .put-listing .ensures) (listing-has-room (c .before .before .before .before .before .pre))
+front-of-page c =
+    let start = c .before .before .before .before .before in
+    wrote-front (c .put-listing .ensures) (listing-has-room (start .pre))
 
--- src/lib.rt:51:28
 slice-aggregate-put-listing : tie.Need-slice-aggregate-put-listing
 slice-aggregate-put-listing c = search needs
 
--- src/lib.rt:51:9
 put-listing-requires : tie.Need-put-listing-requires
 put-listing-requires c κs = search needs
 
--- src/lib.rt:52:23
 array-share-prefix-page : tie.Need-array-share-prefix-page
 array-share-prefix-page c = front-of-page (c .before) .within
 
--- src/lib.rt:52:23
 slice-aggregate-copy-out : tie.Need-slice-aggregate-copy-out
 slice-aggregate-copy-out c = sym (length-take-le _ _ (front-of-page (c .before .before) .within))
 
--- src/lib.rt:52:8
 copy-out-requires : tie.Need-copy-out-requires
 copy-out-requires c κs = search needs
 
--- src/lib.rt:53:9
 same-length : tie.Need-same-length
 same-length c = search needs
 
--- src/lib.rt:53:9
 returns : tie.Need-returns
-returns c = copied-over (front-of-page (c .before .before .before .before .before .before .before)) (c .before .before .before .copy-out .ensures .0) (c .before .before .before .copy-out .ensures .1) (c .if1 .taken)
+returns c =
+    let at-copy-out = c .before .before .before in
+    let start = at-copy-out .before .before .before .before in
+    copied-over (front-of-page start) (at-copy-out .copy-out .ensures .0) (at-copy-out .copy-out .ensures .1) (c .if1 .taken)
 
--- src/lib.rt:55:5
 refused-requires : tie.Need-refused-requires
 refused-requires c κs = search needs
 
--- src/lib.rt:46:1
 same-length-2 : tie.Need-same-length-2
 same-length-2 c = search needs
 
--- src/lib.rt:46:1
 returns-2 : tie.Need-returns-2
-returns-2 c = rw (c .refused .ensures) (too-long (front-of-page (c .before .before .before .before .before .before .before .before)) (c .before .before .before .before .copy-out .ensures .0) (c .before .before .before .before .copy-out .ensures .1) (c .before .if1 .left))
+returns-2 c =
+    let at-copy-out = c .before .before .before .before in
+    let start = at-copy-out .before .before .before .before in
+    rw (c .refused .ensures)
+    (too-long (front-of-page start) (at-copy-out .copy-out .ensures .0) (at-copy-out .copy-out .ensures .1)
+    (c .before .if1 .left))
 
 pub hand-over-spec : {M : Type 1} → statement M
 hand-over-spec =

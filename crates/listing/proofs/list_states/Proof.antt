@@ -1,3 +1,6 @@
+-- `listing::list_states` meets its contract: what allotting refuses is the listing's refusal, and otherwise the seats are the method's, so
+-- that what is handed over is the listing.
+-- Assumes nothing.
 use mathlib.Core.Path.{sym}
 use native.Mathlib.Omega.{arith}
 use lib.Seq.{length-take-le}
@@ -5,56 +8,61 @@ use Rattle.listing.specs.Listed.{good-sound, told-refused, told-listable
 use borrow.Author.Needs.{needs}
 use Rattle.listing.proofs.list_states.Statement.{statement}
 use Rattle.listing.proofs.list_states.Tie as tie
-use Rattle.listing.proofs.list_states.Reads as reads
-use Rattle.listing.proofs.list_states.Lts as lts
-use Rattle.allot.proofs.allot.Reads as allot-reads
-use Rattle.fields.proofs.cut.rest.Reads as rest-reads
-use Rattle.listing.proofs.hand_over.Reads as hand-over-reads
-use Rattle.listing.proofs.refused.Reads as refused-reads
 
--- src/lib.rt:66:56
 array-share-prefix-populations : tie.Need-array-share-prefix-populations
-array-share-prefix-populations c = omega (arith, good-sound (c .before .before .before .before .pre .0) .states, good-sound (c .before .before .before .before .pre .0) .populations .room)
+array-share-prefix-populations c =
+    omega (
+      arith,
+      good-sound (c .before .before .before .before .pre .0) .states,
+      good-sound (c .before .before .before .before .pre .0) .populations .room,
+    )
 
--- src/lib.rt:66:56
 slice-aggregate-allot : tie.Need-slice-aggregate-allot
-slice-aggregate-allot c = sym (length-take-le _ _ (omega (arith, good-sound (c .before .before .before .before .before .pre .0) .states, good-sound (c .before .before .before .before .before .pre .0) .populations .room)))
+slice-aggregate-allot c =
+    let start = c .before .before .before .before .before in
+    sym (length-take-le _ _ (omega (arith, good-sound (start .pre .0) .states, good-sound (start .pre .0) .populations .room)))
 
--- src/lib.rt:66:9
 allot-requires : tie.Need-allot-requires
 allot-requires c κs = search needs
 
--- src/lib.rt:68:9
 refused-requires : tie.Need-refused-requires
 refused-requires c κs = search needs
 
--- src/lib.rt:68:9
 same-length : tie.Need-same-length
 same-length c = search needs
 
--- src/lib.rt:68:9
 returns : tie.Need-returns
-returns c = rw (c .refused .ensures) (told-refused (c .before .before .before .before .before .before .before .before .before .before .before .before .pre .0) (c .before .before .before .before .before .before .before .before .before .before .before .before .pre .1) (c .before .before .before .before .before .allot .ensures) _ (c .before .if1 .taken))
+returns c =
+    let at-allot = c .before .before .before .before .before in
+    let start = at-allot .before .before .before .before .before .before .before in
+    rw (c .refused .ensures) (told-refused (start .pre .0) (start .pre .1) (at-allot .allot .ensures) _ (c .before .if1 .taken))
 
--- src/lib.rt:70:24
 rest-requires : tie.Need-rest-requires
 rest-requires c κs = search needs
 
--- src/lib.rt:70:5
 hand-over-requires : tie.Need-hand-over-requires
-hand-over-requires c κs = told-listable (c .before .before .before .before .before .before .before .before .before .before .before .before .before .before .pre .0) (c .before .before .before .before .before .before .before .before .before .before .before .before .before .before .pre .1) (c .before .before .before .before .before .before .before .allot .ensures) (c .before .before .before .if1 .left) (c .before .before .rest .ensures)
+hand-over-requires c κs =
+    let at-rest = c .before .before in
+    let at-if1 = at-rest .before in
+    let at-allot = at-if1 .before .before .before .before in
+    let start = at-allot .before .before .before .before .before .before .before in
+    told-listable (start .pre .0) (start .pre .1) (at-allot .allot .ensures) (at-if1 .if1 .left) (at-rest .rest .ensures)
 
--- src/lib.rt:59:1
 same-length-2 : tie.Need-same-length-2
 same-length-2 c = search needs
 
--- src/lib.rt:59:1
 same-length-3 : tie.Need-same-length-3
 same-length-3 c = search needs
 
--- src/lib.rt:59:1
 returns-2 : tie.Need-returns-2
-returns-2 c = told-listed (c .before .before .before .before .before .before .before .before .before .before .before .before .before .before .before .before .before .pre .0) (c .before .before .before .before .before .before .before .before .before .before .before .before .before .before .before .before .before .pre .1) (c .before .before .before .before .before .before .before .before .before .before .allot .ensures) (c .before .before .before .before .before .before .if1 .left) (c .before .before .before .before .before .rest .ensures) (c .before .before .hand-over .ensures)
+returns-2 c =
+    let at-hand-over = c .before .before in
+    let at-rest = at-hand-over .before .before .before in
+    let at-if1 = at-rest .before in
+    let at-allot = at-if1 .before .before .before .before in
+    let start = at-allot .before .before .before .before .before .before .before in
+    told-listed (start .pre .0) (start .pre .1) (at-allot .allot .ensures) (at-if1 .if1 .left) (at-rest .rest .ensures)
+    (at-hand-over .hand-over .ensures)
 
 pub list-states-spec : {M : Type 1} → statement M
 list-states-spec =

@@ -1,48 +1,41 @@
+-- `listing::write_listing` meets its contract: a register that is refused is refused with its line, and any other is allotted and listed.
+-- Assumes nothing.
 use native.Mathlib.Omega.{arith}
 use lib.ListN.{length-take}
 use Rattle.listing.specs.Listed.{GoodReading, good-sound, reading-refused}
 use borrow.Author.Needs.{needs}
 use Rattle.listing.proofs.write_listing.Statement.{statement}
 use Rattle.listing.proofs.write_listing.Tie as tie
-use Rattle.listing.proofs.write_listing.Reads as reads
-use Rattle.listing.proofs.write_listing.Lts as lts
-use Rattle.listing.proofs.list_states.Reads as list-states-reads
-use Rattle.listing.proofs.refused.Reads as refused-reads
-use Rattle.register.proofs.read.Reads as read-reads
 
 -- Past the first test the register was read.
 was-read : (c : tie.Else1) → GoodReading (c .before .before .before .before .before .args .register .now) (c .before .before .read .result)
 was-read c = record { reading = c .before .before .read .ensures; good = c .if1 .left }
 
--- src/lib.rt:78:9
 read-requires : tie.Need-read-requires
 read-requires c κs = search needs
 
--- src/lib.rt:80:9
 refused-requires : tie.Need-refused-requires
 refused-requires c κs = search needs
 
--- src/lib.rt:80:9
 returns : tie.Need-returns
-returns c = rw (c .refused .ensures, c .before .before .before .read .ensures) (reading-refused _ _ (rw (c .before .before .before .read .ensures) at (c .before .if1 .taken)))
+returns c =
+    rw
+    (c .refused .ensures, c .before .before .before .read .ensures)
+    (reading-refused _ _ (rw (c .before .before .before .read .ensures) at (c .before .if1 .taken)))
 
--- src/lib.rt:84:36
 array-borrow-prefix-seats : tie.Need-array-borrow-prefix-seats
 array-borrow-prefix-seats c = good-sound (was-read c) .states .1
 
--- src/lib.rt:84:36
 slice-aggregate-list-states : tie.Need-slice-aggregate-list-states
 slice-aggregate-list-states c = simp length-take (omega (arith, good-sound (was-read (c .before)) .states))
 
--- src/lib.rt:84:5
 list-states-requires : tie.Need-list-states-requires
-list-states-requires c κs = (was-read (c .before .before), simp length-take (omega (arith, good-sound (was-read (c .before .before)) .states)))
+list-states-requires c κs =
+    (was-read (c .before .before), simp length-take (omega (arith, good-sound (was-read (c .before .before)) .states)))
 
--- src/lib.rt:75:1
 same-length : tie.Need-same-length
 same-length c = search needs
 
--- src/lib.rt:75:1
 returns-2 : tie.Need-returns-2
 returns-2 c = c .before .before .before .list-states .ensures
 

@@ -23,62 +23,97 @@ array-share-prefix-populations : tie.Need-array-share-prefix-populations
 array-share-prefix-populations c = omega (arith, full-people (c .before .before), states-fit _ (c .before .before .pre .0))
 
 slice-aggregate-total-of : tie.Need-slice-aggregate-total-of
-slice-aggregate-total-of c = sym (length-take-le _ _ (omega (arith, full-people (c .before .before .before), states-fit _ (c .before .before .before .pre .0))))
+slice-aggregate-total-of c =
+    sym
+    (length-take-le _ _
+    (omega (arith, full-people (c .before .before .before), states-fit _ (c .before .before .before .pre .0))))
 
 total-of-requires : tie.Need-total-of-requires
 total-of-requires c κs = search needs
 
 array-share-prefix-populations-2 : tie.Need-array-share-prefix-populations-2
-array-share-prefix-populations-2 c = omega (arith, full-people (c .before .before .before .before .before), states-fit _ (c .before .before .before .before .before .pre .0))
+array-share-prefix-populations-2 c =
+    let start = c .before .before .before .before .before in
+    omega (arith, full-people start, states-fit _ (start .pre .0))
 
 slice-aggregate-place : tie.Need-slice-aggregate-place
-slice-aggregate-place c = sym (length-take-le _ _ (omega (arith, full-people (c .before .before .before .before .before .before), states-fit _ (c .before .before .before .before .before .before .pre .0))))
+slice-aggregate-place c =
+    let start = c .before .before .before .before .before .before in
+    sym (length-take-le _ _ (omega (arith, full-people start, states-fit _ (start .pre .0))))
 
 array-borrow-prefix-seats : tie.Need-array-borrow-prefix-seats
-array-borrow-prefix-seats c = omega (arith, full-seats (c .before .before .before .before .before .before), states-fit _ (c .before .before .before .before .before .before .pre .0))
+array-borrow-prefix-seats c =
+    let start = c .before .before .before .before .before .before in
+    omega (arith, full-seats start, states-fit _ (start .pre .0))
 
 slice-aggregate-place-2 : tie.Need-slice-aggregate-place-2
-slice-aggregate-place-2 c = sym (length-take-le _ _ (omega (arith, full-seats (c .before .before .before .before .before .before .before), states-fit _ (c .before .before .before .before .before .before .before .pre .0))))
+slice-aggregate-place-2 c =
+    let start = c .before .before .before .before .before .before .before in
+    sym (length-take-le _ _ (omega (arith, full-seats start, states-fit _ (start .pre .0))))
 
 place-requires : tie.Need-place-requires
 unfolding peopleOf
-place-requires c κs = seats-ready _ (c .before .before .before .before .before .before .before .pre .0) (opened-parts (c .before .before .before .before .before .before .before .pre .0 .opens) (c .before .before .before .total-of .ensures)) .workable
+place-requires c κs =
+    let at-total-of = c .before .before .before in
+    let start = at-total-of .before .before .before .before in
+    seats-ready _ (start .pre .0) (opened-parts (start .pre .0 .opens) (at-total-of .total-of .ensures)) .workable
 
 add-t19 : tie.Need-add-t19
 add-t19 c = search needs
 
 add-t20 : tie.Need-add-t20
-add-t20 c = omega (arith, steps-fit _ (c .before .before .before .before .before .before .before .before .before .pre .0))
+add-t20 c =
+    let start = c .before .before .before .before .before .before .before .before .before in
+    omega (arith, steps-fit _ (start .pre .0))
 
 returns : tie.Need-returns
 unfolding peopleOf
-returns c = placed-next _ (c .before .before .before .before .before .before .before .before .before .pre .0) (c .before .before .before .before .before .before .before .before .before .pre .1) (c .before .before .before .before .if1 .taken) (c .before .place .ensures)
+returns c =
+    let at-if1 = c .before .before .before .before in
+    let start = at-if1 .before .before .before .before .before in
+    placed-next _ (start .pre .0) (start .pre .1) (at-if1 .if1 .taken) (c .before .place .ensures)
 
 array-share-prefix-populations-3 : tie.Need-array-share-prefix-populations-3
-array-share-prefix-populations-3 c = omega (arith, full-people (c .before .before .before .before .before), states-fit _ (c .before .before .before .before .before .pre .0))
+array-share-prefix-populations-3 c =
+    let start = c .before .before .before .before .before in
+    omega (arith, full-people start, states-fit _ (start .pre .0))
 
 slice-aggregate-withdraw : tie.Need-slice-aggregate-withdraw
-slice-aggregate-withdraw c = sym (length-take-le _ _ (omega (arith, full-people (c .before .before .before .before .before .before), states-fit _ (c .before .before .before .before .before .before .pre .0))))
+slice-aggregate-withdraw c =
+    let start = c .before .before .before .before .before .before in
+    sym (length-take-le _ _ (omega (arith, full-people start, states-fit _ (start .pre .0))))
 
 array-borrow-prefix-seats-2 : tie.Need-array-borrow-prefix-seats-2
-array-borrow-prefix-seats-2 c = omega (arith, full-seats (c .before .before .before .before .before .before), states-fit _ (c .before .before .before .before .before .before .pre .0))
+array-borrow-prefix-seats-2 c =
+    let start = c .before .before .before .before .before .before in
+    omega (arith, full-seats start, states-fit _ (start .pre .0))
 
 slice-aggregate-withdraw-2 : tie.Need-slice-aggregate-withdraw-2
-slice-aggregate-withdraw-2 c = sym (length-take-le _ _ (omega (arith, full-seats (c .before .before .before .before .before .before .before), states-fit _ (c .before .before .before .before .before .before .before .pre .0))))
+slice-aggregate-withdraw-2 c =
+    let start = c .before .before .before .before .before .before .before in
+    sym (length-take-le _ _ (omega (arith, full-seats start, states-fit _ (start .pre .0))))
 
 withdraw-requires : tie.Need-withdraw-requires
 unfolding peopleOf
-withdraw-requires c κs = seats-ready _ (c .before .before .before .before .before .before .before .pre .0) (opened-parts (c .before .before .before .before .before .before .before .pre .0 .opens) (c .before .before .before .total-of .ensures))
+withdraw-requires c κs =
+    let at-total-of = c .before .before .before in
+    let start = at-total-of .before .before .before .before in
+    seats-ready _ (start .pre .0) (opened-parts (start .pre .0 .opens) (at-total-of .total-of .ensures))
 
 sub-t28 : tie.Need-sub-t28
 sub-t28 c = search needs
 
 add-t29 : tie.Need-add-t29
-add-t29 c = omega (arith, steps-fit _ (c .before .before .before .before .before .before .before .before .before .pre .0))
+add-t29 c =
+    let start = c .before .before .before .before .before .before .before .before .before in
+    omega (arith, steps-fit _ (start .pre .0))
 
 returns-2 : tie.Need-returns-2
 unfolding peopleOf
-returns-2 c = withdrawn-next _ (c .before .before .before .before .before .before .before .before .before .pre .0) (c .before .before .before .before .before .before .before .before .before .pre .1) (c .before .before .before .before .if1 .left) (c .before .withdraw .ensures)
+returns-2 c =
+    let at-if1 = c .before .before .before .before in
+    let start = at-if1 .before .before .before .before .before in
+    withdrawn-next _ (start .pre .0) (start .pre .1) (at-if1 .if1 .left) (c .before .withdraw .ensures)
 
 pub moved-spec : {M : Type 1} → statement M
 moved-spec =

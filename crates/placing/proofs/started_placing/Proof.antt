@@ -23,17 +23,26 @@ array-borrow-prefix-seats : tie.Need-array-borrow-prefix-seats
 array-borrow-prefix-seats c = search needs
 
 slice-aggregate-fill-start : tie.Need-slice-aggregate-fill-start
-slice-aggregate-fill-start c = sym (length-take-le _ _ (c .before .before .before .before .before .pre .problem .statesWithin))
+slice-aggregate-fill-start c =
+    let start = c .before .before .before .before .before in
+    sym (length-take-le _ _ (start .pre .problem .statesWithin))
 
 fill-start-requires : tie.Need-fill-start-requires
-fill-start-requires c κs = (c .before .before .before .before .before .pre, length-take-le _ _ (c .before .before .before .before .before .pre .problem .statesWithin))
+fill-start-requires c κs =
+    let start = c .before .before .before .before .before in
+    (start .pre, length-take-le _ _ (start .pre .problem .statesWithin))
 
 start-total-requires : tie.Need-start-total-requires
 start-total-requires c κs = search needs
 
 returns : tie.Need-returns
 unfolding started
-returns c = record-equal refl (laid-over-zeros _ _ _ (c .before .before .before .before .before .copy-into .ensures) refl) refl (laid-over-zeros _ _ _ (c .before .before .fill-start .ensures) (length-start _ _)) (c .start-total .ensures) refl
+returns c =
+    let at-fill-start = c .before .before in
+    let at-copy-into = at-fill-start .before .before .before in
+    record-equal refl
+    (laid-over-zeros _ _ _ (at-copy-into .copy-into .ensures) refl) refl
+    (laid-over-zeros _ _ _ (at-fill-start .fill-start .ensures) (length-start _ _)) (c .start-total .ensures) refl
 
 pub started-placing-spec : {M : Type 1} → statement M
 started-placing-spec =

@@ -15,7 +15,8 @@ returns c = simp (← (c .before .problem-refusal .ensures), ne-eqb _ _ (c .if1 
 
 returns-2 : tie.Need-returns-2
 unfolding allotRefusal orElse
-returns-2 c = simp (← (c .before .before .problem-refusal .ensures), eq-eqb _ _ (c .before .if1 .left), ne-eqb _ _ (c .if2 .taken))
+returns-2 c =
+    simp (← (c .before .before .problem-refusal .ensures), eq-eqb _ _ (c .before .if1 .left), ne-eqb _ _ (c .if2 .taken))
 
 house-refusal-requires : tie.Need-house-refusal-requires
 house-refusal-requires c κs = search needs

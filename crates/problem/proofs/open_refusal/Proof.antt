@@ -19,7 +19,8 @@ house-refusal-requires c κs = search needs
 
 returns-2 : tie.Need-returns-2
 unfolding openRefusal orElse
-returns-2 c = simp (← (c .before .before .problem-refusal .ensures), eq-eqb _ _ (c .before .if1 .left)) (c .house-refusal .ensures)
+returns-2 c =
+    simp (← (c .before .before .problem-refusal .ensures), eq-eqb _ _ (c .before .if1 .left)) (c .house-refusal .ensures)
 
 pub open-refusal-spec : {M : Type 1} → statement M
 open-refusal-spec =

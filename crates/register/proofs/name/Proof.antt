@@ -39,7 +39,9 @@ returns-2 c =
     ∙ rw (
       c .before .lines-after .ensures,
       c .before .before .rest .ensures,
-      rw (c .before .before .before .before .before .name-refusal .ensures) at (eq-eqb _ _ (c .before .before .before .if1 .left)),
+      rw
+          (c .before .before .before .before .before .name-refusal .ensures) at
+          (eq-eqb _ _ (c .before .before .before .if1 .left)),
     )
 
 pub name-spec : {M : Type 1} → statement M

@@ -36,7 +36,9 @@ rest-requires c κs = search needs
 
 read-states-requires : tie.Need-read-states-requires
 read-states-requires c κs =
-    rw (c .before .before .before .read-head .ensures) (head-sound _ (rw (c .before .before .before .read-head .ensures) at (c .before .if2 .left)) .states .1)
+    rw
+    (c .before .before .before .read-head .ensures)
+    (head-sound _ (rw (c .before .before .before .read-head .ensures) at (c .before .if2 .left)) .states .1)
 
 returns-3 : tie.Need-returns-3
 unfolding readingOf linesOf

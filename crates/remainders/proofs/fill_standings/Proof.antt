@@ -45,8 +45,10 @@ standing-requires c κs =
     let ps = start .args .populations .now in
     let H = start .args .house in
     let i = c .before .before .before .loop .i in
-    let there = ap (λ (l : List ℕ). getD l i 0) (start .pre .1) ∙ getD-of (wholePart ps H) (length ps) i (omega arith) in
-    (product-fits ps H i (start .pre .0 .passed), there ∙ sym (whole-part-is ps (start .args .total) H i (start .pre .0 .totalIs)))
+    let there = ap (λ (l : List ℕ). getD l i 0) (start .pre .1) ∙ getD-of (wholePart ps H) (length ps) i (omega arith) in (
+      product-fits ps H i (start .pre .0 .passed),
+      there ∙ sym (whole-part-is ps (start .args .total) H i (start .pre .0 .totalIs)),
+    )
 
 mul-standings : tie.Need-mul-standings Inv-loop μ-loop
 mul-standings c = search needs

@@ -42,7 +42,8 @@ loop-less : tie.Need-loop-less Inv-loop μ-loop
 loop-less c = search needs
 
 loop-again : tie.Need-loop-again Inv-loop μ-loop
-loop-again c = (omega arith, c .before .before .before .before .loop .inv .1 ∙ difference-later _ _ _ _ _ (omega arith) (c .if1 .left))
+loop-again c =
+    (omega arith, c .before .before .before .before .loop .inv .1 ∙ difference-later _ _ _ _ _ (omega arith) (c .if1 .left))
 
 returns-2 : tie.Need-returns-2 Inv-loop μ-loop
 returns-2 c = sym (c .before .loop .inv .1 ∙ difference-none _ _ _ _ (omega arith))

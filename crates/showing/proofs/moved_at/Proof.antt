@@ -10,19 +10,43 @@ states-in-requires : tie.Need-states-in-requires
 states-in-requires c κs = search needs
 
 array-share-prefix-old : tie.Need-array-share-prefix-old
-array-share-prefix-old c = states-fit (c .before .before .before .args .before) (c .before .before .before .args .before .seats) (c .before .before .states-in .ensures) (search needs)
+array-share-prefix-old c =
+    states-fit
+    (c .before .before .before .args .before)
+    (c .before .before .before .args .before .seats) (c .before .before .states-in .ensures) (search needs)
 
 slice-aggregate-first-difference : tie.Need-slice-aggregate-first-difference
-slice-aggregate-first-difference c = sym (states-taken (c .before .before .before .before .args .before) (c .before .before .before .before .args .before .seats) (c .before .before .before .states-in .ensures) (search needs))
+slice-aggregate-first-difference c =
+    sym
+    (states-taken
+    (c .before .before .before .before .args .before)
+    (c .before .before .before .before .args .before .seats)
+    (c .before .before .before .states-in .ensures) (search needs))
 
 array-share-prefix-new : tie.Need-array-share-prefix-new
-array-share-prefix-new c = states-fit (c .before .before .before .before .args .before) (c .before .before .before .before .args .after .seats) (c .before .before .before .states-in .ensures) (search needs)
+array-share-prefix-new c =
+    states-fit
+    (c .before .before .before .before .args .before)
+    (c .before .before .before .before .args .after .seats)
+    (c .before .before .before .states-in .ensures) (search needs)
 
 slice-aggregate-first-difference-2 : tie.Need-slice-aggregate-first-difference-2
-slice-aggregate-first-difference-2 c = sym (states-taken (c .before .before .before .before .before .args .before) (c .before .before .before .before .before .args .after .seats) (c .before .before .before .before .states-in .ensures) (search needs))
+slice-aggregate-first-difference-2 c =
+    sym
+    (states-taken
+    (c .before .before .before .before .before .args .before)
+    (c .before .before .before .before .before .args .after .seats)
+    (c .before .before .before .before .states-in .ensures) (search needs))
 
 first-difference-requires : tie.Need-first-difference-requires
-first-difference-requires c κs = states-taken (c .before .before .before .before .before .args .before) (c .before .before .before .before .before .args .after .seats) (c .before .before .before .before .states-in .ensures) (search needs) ∙ sym (states-taken (c .before .before .before .before .before .args .before) (c .before .before .before .before .before .args .before .seats) (c .before .before .before .before .states-in .ensures) (search needs))
+first-difference-requires c κs =
+    states-taken (c .before .before .before .before .before .args .before)
+    (c .before .before .before .before .before .args .after .seats) (c .before .before .before .before .states-in .ensures)
+    (search needs) ∙ sym
+    (states-taken
+    (c .before .before .before .before .before .args .before)
+    (c .before .before .before .before .before .args .before .seats)
+    (c .before .before .before .before .states-in .ensures) (search needs))
 
 returns : tie.Need-returns
 unfolding movedAt seatsIn

@@ -20,7 +20,11 @@ same-length c = search needs
 
 returns : tie.Need-returns
 unfolding moveText
-returns c = wrote-then (c .before .before .before .before .before .before .before .put-weighed .ensures) (rw (c .before .before .before .moved-at .ensures) at (c .before .before .put-step .ensures))
+returns c =
+    let at-put-step = c .before .before in
+    let at-moved-at = at-put-step .before in
+    let at-put-weighed = at-moved-at .before .before .before .before in
+    wrote-then (at-put-weighed .put-weighed .ensures) (rw (at-moved-at .moved-at .ensures) at (at-put-step .put-step .ensures))
 
 pub put-move-spec : {M : Type 1} → statement M
 put-move-spec =

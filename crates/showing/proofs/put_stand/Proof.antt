@@ -11,19 +11,46 @@ states-in-requires : tie.Need-states-in-requires
 states-in-requires c κs = search needs
 
 array-share-prefix-populations : tie.Need-array-share-prefix-populations
-array-share-prefix-populations c = states-fit (c .before .before .before .before .before .before .before .args .placing) (c .before .before .before .before .before .before .before .args .placing .populations) (c .before .before .before .states-in .ensures) (search needs)
+array-share-prefix-populations c =
+    states-fit
+    (c .before .before .before .before .before .before .before .args .placing)
+    (c .before .before .before .before .before .before .before .args .placing .populations)
+    (c .before .before .before .states-in .ensures) (search needs)
 
 slice-aggregate-put-states : tie.Need-slice-aggregate-put-states
-slice-aggregate-put-states c = sym (states-taken (c .before .before .before .before .before .before .before .before .args .placing) (c .before .before .before .before .before .before .before .before .args .placing .populations) (c .before .before .before .before .states-in .ensures) (search needs))
+slice-aggregate-put-states c =
+    sym
+    (states-taken
+    (c .before .before .before .before .before .before .before .before .args .placing)
+    (c .before .before .before .before .before .before .before .before .args .placing .populations)
+    (c .before .before .before .before .states-in .ensures) (search needs))
 
 array-share-prefix-seats : tie.Need-array-share-prefix-seats
-array-share-prefix-seats c = states-fit (c .before .before .before .before .before .before .before .before .args .placing) (c .before .before .before .before .before .before .before .before .args .placing .seats) (c .before .before .before .before .states-in .ensures) (search needs)
+array-share-prefix-seats c =
+    states-fit
+    (c .before .before .before .before .before .before .before .before .args .placing)
+    (c .before .before .before .before .before .before .before .before .args .placing .seats)
+    (c .before .before .before .before .states-in .ensures) (search needs)
 
 slice-aggregate-put-states-2 : tie.Need-slice-aggregate-put-states-2
-slice-aggregate-put-states-2 c = sym (states-taken (c .before .before .before .before .before .before .before .before .before .args .placing) (c .before .before .before .before .before .before .before .before .before .args .placing .seats) (c .before .before .before .before .before .states-in .ensures) (search needs))
+slice-aggregate-put-states-2 c =
+    sym
+    (states-taken
+    (c .before .before .before .before .before .before .before .before .before .args .placing)
+    (c .before .before .before .before .before .before .before .before .before .args .placing .seats)
+    (c .before .before .before .before .before .states-in .ensures) (search needs))
 
 put-states-requires : tie.Need-put-states-requires
-put-states-requires c κs = (c .before .before .before .before .before .before .before .before .before .pre, states-taken (c .before .before .before .before .before .before .before .before .before .args .placing) (c .before .before .before .before .before .before .before .before .before .args .placing .seats) (c .before .before .before .before .before .states-in .ensures) (search needs) ∙ sym (states-taken (c .before .before .before .before .before .before .before .before .before .args .placing) (c .before .before .before .before .before .before .before .before .before .args .placing .populations) (c .before .before .before .before .before .states-in .ensures) (search needs)))
+put-states-requires c κs = (
+  c .before .before .before .before .before .before .before .before .before .pre,
+  states-taken (c .before .before .before .before .before .before .before .before .before .args .placing)
+      (c .before .before .before .before .before .before .before .before .before .args .placing .seats)
+      (c .before .before .before .before .before .states-in .ensures) (search needs) ∙ sym
+      (states-taken
+      (c .before .before .before .before .before .before .before .before .before .args .placing)
+      (c .before .before .before .before .before .before .before .before .before .args .placing .populations)
+      (c .before .before .before .before .before .states-in .ensures) (search needs)),
+)
 
 put-total-requires : tie.Need-put-total-requires
 put-total-requires c κs = search needs
@@ -33,7 +60,18 @@ same-length c = search needs
 
 returns : tie.Need-returns
 unfolding standText populationsIn seatsIn
-returns c = wrote-then (rw (states-taken (c .before .before .before .before .before .before .before .before .before .before .before .before .before .before .before .before .args .placing) (c .before .before .before .before .before .before .before .before .before .before .before .before .before .before .before .before .args .placing .populations) (c .before .before .before .before .before .before .before .before .before .before .before .before .states-in .ensures) (search needs), c .before .before .before .before .before .before .before .before .before .before .before .before .states-in .ensures) at (c .before .before .before .before .before .before .put-states .ensures)) (c .before .before .put-total .ensures)
+returns c =
+    wrote-then
+    (rw (
+      states-taken
+          (c .before .before .before .before .before .before .before .before .before .before .before .before .before .before .before .before .args .placing)
+          (c .before .before .before .before .before .before .before .before .before .before .before .before .before .before .before .before .args .placing .populations)
+          (c .before .before .before .before .before .before .before .before .before .before .before .before .states-in .ensures)
+          (search needs),
+      c .before .before .before .before .before .before .before .before .before .before .before .before .states-in .ensures,
+    ) at
+    (c .before .before .before .before .before .before .put-states .ensures))
+    (c .before .before .put-total .ensures)
 
 pub put-stand-spec : {M : Type 1} → statement M
 put-stand-spec =

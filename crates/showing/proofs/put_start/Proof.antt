@@ -23,7 +23,11 @@ same-length c = search needs
 
 returns : tie.Need-returns
 unfolding startText
-returns c = wrote-then (rw (c .before .before .before .before .before .before .before .before .before .states-in .ensures) at (c .before .before .before .before .before .before .before .put-head .ensures)) (c .before .before .put-stand .ensures)
+returns c =
+    let at-put-stand = c .before .before in
+    let at-put-head = at-put-stand .before .before .before .before .before in
+    let at-states-in = at-put-head .before .before in
+    wrote-then (rw (at-states-in .states-in .ensures) at (at-put-head .put-head .ensures)) (at-put-stand .put-stand .ensures)
 
 pub put-start-spec : {M : Type 1} → statement M
 put-start-spec =

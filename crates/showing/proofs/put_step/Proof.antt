@@ -18,27 +18,45 @@ name-at-requires c κs = search needs
 
 mul-put-step : tie.Need-mul-put-step
 unfolding statesIn
-mul-put-step c = omega (arith, c .before .before .before .before .before .before .if1 .taken, c .before .before .before .before .before .before .before .states-in .ensures)
+mul-put-step c =
+    let at-if1 = c .before .before .before .before .before .before in
+    let at-states-in = at-if1 .before in
+    omega (arith, at-if1 .if1 .taken, at-states-in .states-in .ensures)
 
 array-read-put-step : tie.Need-array-read-put-step
 unfolding statesIn
-array-read-put-step c = omega (arith, c .before .before .before .before .before .before .if1 .taken, c .before .before .before .before .before .before .before .states-in .ensures)
+array-read-put-step c =
+    let at-if1 = c .before .before .before .before .before .before in
+    let at-states-in = at-if1 .before in
+    omega (arith, at-if1 .if1 .taken, at-states-in .states-in .ensures)
 
 mul-put-step-2 : tie.Need-mul-put-step-2
 unfolding statesIn
-mul-put-step-2 c = omega (arith, c .before .before .before .before .before .before .if1 .taken, c .before .before .before .before .before .before .before .states-in .ensures)
+mul-put-step-2 c =
+    let at-if1 = c .before .before .before .before .before .before in
+    let at-states-in = at-if1 .before in
+    omega (arith, at-if1 .if1 .taken, at-states-in .states-in .ensures)
 
 array-read-put-step-2 : tie.Need-array-read-put-step-2
 unfolding statesIn
-array-read-put-step-2 c = omega (arith, c .before .before .before .before .before .before .if1 .taken, c .before .before .before .before .before .before .before .states-in .ensures)
+array-read-put-step-2 c =
+    let at-if1 = c .before .before .before .before .before .before in
+    let at-states-in = at-if1 .before in
+    omega (arith, at-if1 .if1 .taken, at-states-in .states-in .ensures)
 
 mul-put-step-3 : tie.Need-mul-put-step-3
 unfolding statesIn
-mul-put-step-3 c = omega (arith, c .before .before .before .before .before .before .if1 .taken, c .before .before .before .before .before .before .before .states-in .ensures)
+mul-put-step-3 c =
+    let at-if1 = c .before .before .before .before .before .before in
+    let at-states-in = at-if1 .before in
+    omega (arith, at-if1 .if1 .taken, at-states-in .states-in .ensures)
 
 array-read-put-step-3 : tie.Need-array-read-put-step-3
 unfolding statesIn
-array-read-put-step-3 c = omega (arith, c .before .before .before .before .before .before .if1 .taken, c .before .before .before .before .before .before .before .states-in .ensures)
+array-read-put-step-3 c =
+    let at-if1 = c .before .before .before .before .before .before in
+    let at-states-in = at-if1 .before in
+    omega (arith, at-if1 .if1 .taken, at-states-in .states-in .ensures)
 
 put-step-requires : tie.Need-put-step-requires
 put-step-requires c κs = search needs
@@ -48,7 +66,15 @@ same-length c = search needs
 
 returns : tie.Need-returns
 unfolding stepText
-returns c = rw (lt-ltb _ _ (rw (c .before .before .before .before .before .before .before .before .before .before .states-in .ensures) at (c .before .before .before .before .before .before .before .before .before .if1 .taken))) (rw (c .before .before .before .name-at .ensures, c .before .before .before .before .lines-after .ensures) at (c .before .before .put-step .ensures))
+returns c =
+    let at-put-step = c .before .before in
+    let at-name-at = at-put-step .before in
+    let at-lines-after = at-name-at .before in
+    let at-if1 = at-lines-after .before .before .before .before .before in
+    let at-states-in = at-if1 .before in
+    rw
+    (lt-ltb _ _ (rw (at-states-in .states-in .ensures) at (at-if1 .if1 .taken)))
+    (rw (at-name-at .name-at .ensures, at-lines-after .lines-after .ensures) at (at-put-step .put-step .ensures))
 
 returns-2 : tie.Need-returns-2
 unfolding stepText

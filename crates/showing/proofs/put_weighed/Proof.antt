@@ -12,26 +12,62 @@ states-in-requires : tie.Need-states-in-requires
 states-in-requires c κs = search needs
 
 array-share-prefix-populations : tie.Need-array-share-prefix-populations
-array-share-prefix-populations c = states-fit (c .before .before .before .before .before .before .before .args .placing) (c .before .before .before .before .before .before .before .args .placing .populations) (c .before .before .before .before .states-in .ensures) (search needs)
+array-share-prefix-populations c =
+    states-fit
+    (c .before .before .before .before .before .before .before .args .placing)
+    (c .before .before .before .before .before .before .before .args .placing .populations)
+    (c .before .before .before .before .states-in .ensures) (search needs)
 
 slice-aggregate-put-weighings : tie.Need-slice-aggregate-put-weighings
-slice-aggregate-put-weighings c = sym (states-taken (c .before .before .before .before .before .before .before .before .args .placing) (c .before .before .before .before .before .before .before .before .args .placing .populations) (c .before .before .before .before .before .states-in .ensures) (search needs))
+slice-aggregate-put-weighings c =
+    sym
+    (states-taken
+    (c .before .before .before .before .before .before .before .before .args .placing)
+    (c .before .before .before .before .before .before .before .before .args .placing .populations)
+    (c .before .before .before .before .before .states-in .ensures) (search needs))
 
 array-share-prefix-seats : tie.Need-array-share-prefix-seats
-array-share-prefix-seats c = states-fit (c .before .before .before .before .before .before .before .before .args .placing) (c .before .before .before .before .before .before .before .before .args .placing .seats) (c .before .before .before .before .before .states-in .ensures) (search needs)
+array-share-prefix-seats c =
+    states-fit
+    (c .before .before .before .before .before .before .before .before .args .placing)
+    (c .before .before .before .before .before .before .before .before .args .placing .seats)
+    (c .before .before .before .before .before .states-in .ensures) (search needs)
 
 slice-aggregate-put-weighings-2 : tie.Need-slice-aggregate-put-weighings-2
-slice-aggregate-put-weighings-2 c = sym (states-taken (c .before .before .before .before .before .before .before .before .before .args .placing) (c .before .before .before .before .before .before .before .before .before .args .placing .seats) (c .before .before .before .before .before .before .states-in .ensures) (search needs))
+slice-aggregate-put-weighings-2 c =
+    sym
+    (states-taken
+    (c .before .before .before .before .before .before .before .before .before .args .placing)
+    (c .before .before .before .before .before .before .before .before .before .args .placing .seats)
+    (c .before .before .before .before .before .before .states-in .ensures) (search needs))
 
 put-weighings-requires : tie.Need-put-weighings-requires
-put-weighings-requires c κs = (wrote-nothing _ _ (omega arith), states-taken (c .before .before .before .before .before .before .before .before .before .args .placing) (c .before .before .before .before .before .before .before .before .before .args .placing .seats) (c .before .before .before .before .before .before .states-in .ensures) (search needs) ∙ sym (states-taken (c .before .before .before .before .before .before .before .before .before .args .placing) (c .before .before .before .before .before .before .before .before .before .args .placing .populations) (c .before .before .before .before .before .before .states-in .ensures) (search needs)))
+put-weighings-requires c κs = (
+  wrote-nothing _ _ (omega arith),
+  states-taken (c .before .before .before .before .before .before .before .before .before .args .placing)
+      (c .before .before .before .before .before .before .before .before .before .args .placing .seats)
+      (c .before .before .before .before .before .before .states-in .ensures) (search needs) ∙ sym
+      (states-taken
+      (c .before .before .before .before .before .before .before .before .before .args .placing)
+      (c .before .before .before .before .before .before .before .before .before .args .placing .populations)
+      (c .before .before .before .before .before .before .states-in .ensures) (search needs)),
+)
 
 same-length : tie.Need-same-length
 same-length c = search needs
 
 returns : tie.Need-returns
 unfolding weighedText populationsIn seatsIn
-returns c = rw (states-taken (c .before .before .before .before .before .before .before .before .before .before .before .before .args .placing) (c .before .before .before .before .before .before .before .before .before .before .before .before .args .placing .populations) (c .before .before .before .before .before .before .before .before .before .states-in .ensures) (search needs), c .before .before .before .before .before .before .before .before .before .states-in .ensures) at (c .before .before .put-weighings .ensures)
+returns c =
+    rw (
+      states-taken
+          (c .before .before .before .before .before .before .before .before .before .before .before .before .args .placing)
+          (c .before .before .before .before .before .before .before .before .before .before .before .before .args .placing .populations)
+          (c .before .before .before .before .before .before .before .before .before .states-in .ensures)
+          (search needs),
+      c .before .before .before .before .before .before .before .before .before .states-in .ensures,
+    ) at
+    (c .before .before .put-weighings .ensures)
 
 pub put-weighed-spec : {M : Type 1} → statement M
 put-weighed-spec =

@@ -46,7 +46,10 @@ put-decimal-returns : (t : ℕ) → put-decimal-lts.Need-returns (
   put-decimal-below t,
   put-decimal.Post,
 ) (put-decimal-at t) put-decimal.Post
-put-decimal-returns t c = rw (decimal-one (c .before .before .before .before .before .before .args .n) (omega arith)) (c .before .before .put-digit .ensures)
+put-decimal-returns t c =
+    let at-put-digit = c .before .before in
+    let start = at-put-digit .before .before .before .before in
+    rw (decimal-one (start .args .n) (omega arith)) (at-put-digit .put-digit .ensures)
 
 put-decimal-put-decimal-requires : (t : ℕ) → put-decimal-lts.Need-put-decimal-requires (
   put-digit-reads.Asked,
@@ -70,7 +73,10 @@ put-decimal-same-length-2 : (t : ℕ) → put-decimal-lts.Need-same-length-2 (
   put-decimal-below t,
   put-decimal.Post,
 ) (put-decimal-at t) put-decimal.Post
-put-decimal-same-length-2 t c = wrote-length (wrote-then (c .before .before .before .before .before .before .put-decimal .ensures) (c .before .before .put-digit2 .ensures))
+put-decimal-same-length-2 t c =
+    let at-put-digit2 = c .before .before in
+    let at-put-decimal = at-put-digit2 .before .before .before .before in
+    wrote-length (wrote-then (at-put-decimal .put-decimal .ensures) (at-put-digit2 .put-digit2 .ensures))
 
 put-decimal-returns-2 : (t : ℕ) → put-decimal-lts.Need-returns-2 (
   put-digit-reads.Asked,
@@ -78,7 +84,13 @@ put-decimal-returns-2 : (t : ℕ) → put-decimal-lts.Need-returns-2 (
   put-decimal-below t,
   put-decimal.Post,
 ) (put-decimal-at t) put-decimal.Post
-put-decimal-returns-2 t c = rw (decimal-more (c .before .before .before .before .before .before .before .before .before .before .args .n) (omega arith)) (wrote-then (c .before .before .before .before .before .before .put-decimal .ensures) (c .before .before .put-digit2 .ensures))
+put-decimal-returns-2 t c =
+    let at-put-digit2 = c .before .before in
+    let at-put-decimal = at-put-digit2 .before .before .before .before in
+    let start = at-put-decimal .before .before .before .before in
+    rw
+    (decimal-more (start .args .n) (omega arith))
+    (wrote-then (at-put-decimal .put-decimal .ensures) (at-put-digit2 .put-digit2 .ensures))
 
 pub +put-decimal-spec : {M : Type 1} → statement M
 +put-decimal-spec = close μ-put-decimal λ t. put-decimal-lts.spec (

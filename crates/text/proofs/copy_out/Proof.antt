@@ -17,11 +17,18 @@ same-length : tie.Need-same-length
 same-length c = search needs
 
 returns : tie.Need-returns
-returns c = let fits : length (c .before .before .before .before .before .before .before .args .text .now) ≤ length (c .before .before .before .before .before .before .before .args .buffer .now) = omega arith in (sym (le-leb _ _ fits), wrote-copied (c .before .before .put-bytes .ensures) fits)
+returns c =
+    let at-put-bytes = c .before .before in
+    let start = at-put-bytes .before .before .before .before .before in
+    let fits : length (start .args .text .now) ≤ length (start .args .buffer .now) = omega arith in
+    (sym (le-leb _ _ fits), wrote-copied (at-put-bytes .put-bytes .ensures) fits)
 
 returns-2 : tie.Need-returns-2
 unfolding copiedOut
-returns-2 c = let long : length (c .before .before .before .args .buffer .now) < length (c .before .before .before .args .text .now) = omega arith in (sym (lt-leb _ _ long), rw (lt-leb _ _ long))
+returns-2 c =
+    let long : length (c .before .before .before .args .buffer .now) < length (c .before .before .before .args .text .now) =
+    omega arith in
+    (sym (lt-leb _ _ long), rw (lt-leb _ _ long))
 
 pub copy-out-spec : {M : Type 1} → statement M
 copy-out-spec = tie.close (tie.spec put-bytes-requires same-length returns returns-2)

@@ -23,7 +23,8 @@ add-result-2 : tie.Need-add-result-2
 add-result-2 c = search needs
 
 returns-2 : tie.Need-returns-2
-returns-2 c = wrote-past (c .before .args .out .now) (c .before .args .at) (c .before .args .byte ∷ []) (omega arith) (omega arith)
+returns-2 c =
+    wrote-past (c .before .args .out .now) (c .before .args .at) (c .before .args .byte ∷ []) (omega arith) (omega arith)
 
 pub put-byte-spec : {M : Type 1} → statement M
 put-byte-spec =

@@ -20,10 +20,16 @@ add-result : tie.Need-add-result Inv-loop μ-loop
 add-result c = search needs
 
 returns : tie.Need-returns Inv-loop μ-loop
-returns c = wrote-past (c .before .before .before .args .out .now) (c .before .before .before .args .at) (c .before .before .before .args .part .now) (omega arith) (omega arith)
+returns c =
+    wrote-past
+    (c .before .before .before .args .out .now) (c .before .before .before .args .at)
+    (c .before .before .before .args .part .now) (omega arith) (omega arith)
 
 loop-holds : tie.Need-loop-holds Inv-loop μ-loop
-loop-holds c = (search needs, wrote-nothing (c .before .before .before .args .out .now) (c .before .before .before .args .at) (omega arith))
+loop-holds c = (
+  search needs,
+  wrote-nothing (c .before .before .before .args .out .now) (c .before .before .before .args .at) (omega arith),
+)
 
 shared-slice-read-put-byte : tie.Need-shared-slice-read-put-byte Inv-loop μ-loop
 shared-slice-read-put-byte c = search needs
@@ -38,13 +44,23 @@ loop-less : tie.Need-loop-less Inv-loop μ-loop
 loop-less c = search needs
 
 loop-again : tie.Need-loop-again Inv-loop μ-loop
-loop-again c = (omega arith, rw (add-one, take-suc (c .before .before .before .before .before .before .before .before .before .before .args .part .now) (c .before .before .before .before .before .before .loop .i) 0 (omega arith)) (wrote-then (c .before .before .before .before .before .before .loop .inv .1) (c .before .before .put-byte .ensures)))
+loop-again c =
+    let at-put-byte = c .before .before in
+    let at-loop = at-put-byte .before .before .before .before in
+    let start = at-loop .before .before .before .before in (
+      omega arith,
+      rw
+          (add-one, take-suc (start .args .part .now) (at-loop .loop .i) 0 (omega arith))
+          (wrote-then (at-loop .loop .inv .1) (at-put-byte .put-byte .ensures)),
+    )
 
 same-length : tie.Need-same-length Inv-loop μ-loop
 same-length c = wrote-length (c .before .loop .inv .1)
 
 returns-2 : tie.Need-returns-2 Inv-loop μ-loop
-returns-2 c = rw (take-all (c .before .loop .i) (c .before .before .before .before .before .args .part .now) (omega arith)) at (c .before .loop .inv .1)
+returns-2 c =
+    let start = c .before .before .before .before .before in
+    rw (take-all (c .before .loop .i) (start .args .part .now) (omega arith)) at (c .before .loop .inv .1)
 
 pub put-bytes-spec : {M : Type 1} → statement M
 put-bytes-spec =

@@ -23,7 +23,15 @@ same-length c = search needs
 
 returns : tie.Need-returns
 unfolding hundredthsText
-returns c = wrote-then (wrote-then (wrote-then (c .before .before .before .before .before .before .before .before .before .before .before .before .before .before .put-decimal .ensures) (c .before .before .before .before .before .before .before .before .before .before .put-byte .ensures)) (c .before .before .before .before .before .before .put-digit .ensures)) (c .before .before .put-digit2 .ensures)
+returns c =
+    let at-put-digit2 = c .before .before in
+    let at-put-digit = at-put-digit2 .before .before .before .before in
+    let at-put-byte = at-put-digit .before .before .before .before in
+    let at-put-decimal = at-put-byte .before .before .before .before in
+    wrote-then
+    (wrote-then
+    (wrote-then (at-put-decimal .put-decimal .ensures) (at-put-byte .put-byte .ensures)) (at-put-digit .put-digit .ensures))
+    (at-put-digit2 .put-digit2 .ensures)
 
 pub put-hundredths-spec : {M : Type 1} → statement M
 put-hundredths-spec =

@@ -46,28 +46,40 @@ same-length c = search needs
 
 returns : tie.Need-returns
 unfolding markText
-returns c = rw (c .before .before .before .before .before .enum-told .given .1) (c .before .before .put-bytes .ensures)
+returns c =
+    let at-put-bytes = c .before .before in
+    let at-enum-told = at-put-bytes .before .before .before in
+    rw (at-enum-told .enum-told .given .1) (at-put-bytes .put-bytes .ensures)
 
 same-length-2 : tie.Need-same-length-2
 same-length-2 c = search needs
 
 returns-2 : tie.Need-returns-2
 unfolding markText
-returns-2 c = rw (c .before .before .before .before .before .enum-told2 .given .1) (c .before .before .put-bytes2 .ensures)
+returns-2 c =
+    let at-put-bytes2 = c .before .before in
+    let at-enum-told2 = at-put-bytes2 .before .before .before in
+    rw (at-enum-told2 .enum-told2 .given .1) (at-put-bytes2 .put-bytes2 .ensures)
 
 same-length-3 : tie.Need-same-length-3
 same-length-3 c = search needs
 
 returns-3 : tie.Need-returns-3
 unfolding markText
-returns-3 c = rw (c .before .before .before .before .before .enum-told3 .given .1) (c .before .before .put-bytes3 .ensures)
+returns-3 c =
+    let at-put-bytes3 = c .before .before in
+    let at-enum-told3 = at-put-bytes3 .before .before .before in
+    rw (at-enum-told3 .enum-told3 .given .1) (at-put-bytes3 .put-bytes3 .ensures)
 
 same-length-4 : tie.Need-same-length-4
 same-length-4 c = search needs
 
 returns-4 : tie.Need-returns-4
 unfolding markText
-returns-4 c = rw (c .before .before .before .before .before .enum-told4 .given .1) (c .before .before .put-bytes4 .ensures)
+returns-4 c =
+    let at-put-bytes4 = c .before .before in
+    let at-enum-told4 = at-put-bytes4 .before .before .before in
+    rw (at-enum-told4 .enum-told4 .given .1) (at-put-bytes4 .put-bytes4 .ensures)
 
 pub put-mark-spec : {M : Type 1} → statement M
 put-mark-spec =

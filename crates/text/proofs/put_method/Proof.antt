@@ -73,49 +73,70 @@ same-length c = search needs
 
 returns : tie.Need-returns
 unfolding methodText
-returns c = rw (c .before .before .before .before .before .enum-told .given .1) (c .before .before .put-bytes .ensures)
+returns c =
+    let at-put-bytes = c .before .before in
+    let at-enum-told = at-put-bytes .before .before .before in
+    rw (at-enum-told .enum-told .given .1) (at-put-bytes .put-bytes .ensures)
 
 same-length-2 : tie.Need-same-length-2
 same-length-2 c = search needs
 
 returns-2 : tie.Need-returns-2
 unfolding methodText
-returns-2 c = rw (c .before .before .before .before .before .enum-told2 .given .1) (c .before .before .put-bytes2 .ensures)
+returns-2 c =
+    let at-put-bytes2 = c .before .before in
+    let at-enum-told2 = at-put-bytes2 .before .before .before in
+    rw (at-enum-told2 .enum-told2 .given .1) (at-put-bytes2 .put-bytes2 .ensures)
 
 same-length-3 : tie.Need-same-length-3
 same-length-3 c = search needs
 
 returns-3 : tie.Need-returns-3
 unfolding methodText
-returns-3 c = rw (c .before .before .before .before .before .enum-told3 .given .1) (c .before .before .put-bytes3 .ensures)
+returns-3 c =
+    let at-put-bytes3 = c .before .before in
+    let at-enum-told3 = at-put-bytes3 .before .before .before in
+    rw (at-enum-told3 .enum-told3 .given .1) (at-put-bytes3 .put-bytes3 .ensures)
 
 same-length-4 : tie.Need-same-length-4
 same-length-4 c = search needs
 
 returns-4 : tie.Need-returns-4
 unfolding methodText
-returns-4 c = rw (c .before .before .before .before .before .enum-told4 .given .1) (c .before .before .put-bytes4 .ensures)
+returns-4 c =
+    let at-put-bytes4 = c .before .before in
+    let at-enum-told4 = at-put-bytes4 .before .before .before in
+    rw (at-enum-told4 .enum-told4 .given .1) (at-put-bytes4 .put-bytes4 .ensures)
 
 same-length-5 : tie.Need-same-length-5
 same-length-5 c = search needs
 
 returns-5 : tie.Need-returns-5
 unfolding methodText
-returns-5 c = rw (c .before .before .before .before .before .enum-told5 .given .1) (c .before .before .put-bytes5 .ensures)
+returns-5 c =
+    let at-put-bytes5 = c .before .before in
+    let at-enum-told5 = at-put-bytes5 .before .before .before in
+    rw (at-enum-told5 .enum-told5 .given .1) (at-put-bytes5 .put-bytes5 .ensures)
 
 same-length-6 : tie.Need-same-length-6
 same-length-6 c = search needs
 
 returns-6 : tie.Need-returns-6
 unfolding methodText
-returns-6 c = rw (c .before .before .before .before .before .enum-told6 .given .1) (c .before .before .put-bytes6 .ensures)
+returns-6 c =
+    let at-put-bytes6 = c .before .before in
+    let at-enum-told6 = at-put-bytes6 .before .before .before in
+    rw (at-enum-told6 .enum-told6 .given .1) (at-put-bytes6 .put-bytes6 .ensures)
 
 same-length-7 : tie.Need-same-length-7
 same-length-7 c = search needs
 
 returns-7 : tie.Need-returns-7
 unfolding methodText
-returns-7 c = rw (c .before .before .before .before .before .enum-told7 .given .1) (c .before .before .put-bytes7 .ensures)
+returns-7 c =
+    let at-put-bytes7 = c .before .before in
+    let at-enum-told7 = at-put-bytes7 .before .before .before in
+    rw (at-enum-told7 .enum-told7 .given .1) (at-put-bytes7 .put-bytes7 .ensures)
 
 pub put-method-spec : {M : Type 1} → statement M
 put-method-spec =

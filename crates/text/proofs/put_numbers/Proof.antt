@@ -23,7 +23,15 @@ same-length c = search needs
 
 returns : tie.Need-returns
 unfolding numbersText
-returns c = wrote-then (wrote-then (wrote-then (c .before .before .before .before .before .before .before .before .before .before .before .before .before .before .put-byte .ensures) (c .before .before .before .before .before .before .before .before .before .before .put-decimal .ensures)) (c .before .before .before .before .before .before .put-byte2 .ensures)) (c .before .before .put-decimal2 .ensures)
+returns c =
+    let at-put-decimal2 = c .before .before in
+    let at-put-byte2 = at-put-decimal2 .before .before .before .before in
+    let at-put-decimal = at-put-byte2 .before .before .before .before in
+    let at-put-byte = at-put-decimal .before .before .before .before in
+    wrote-then
+    (wrote-then
+    (wrote-then (at-put-byte .put-byte .ensures) (at-put-decimal .put-decimal .ensures)) (at-put-byte2 .put-byte2 .ensures))
+    (at-put-decimal2 .put-decimal2 .ensures)
 
 pub put-numbers-spec : {M : Type 1} → statement M
 put-numbers-spec =

@@ -23,7 +23,12 @@ same-length c = search needs
 
 returns : tie.Need-returns
 unfolding refusalLine
-returns c = wrote-then (wrote-then (c .before .before .before .before .before .before .before .before .before .before .put-bytes .ensures) (c .before .before .before .before .before .before .put-numbers .ensures)) (c .before .before .put-byte .ensures)
+returns c =
+    let at-put-byte = c .before .before in
+    let at-put-numbers = at-put-byte .before .before .before .before in
+    let at-put-bytes = at-put-numbers .before .before .before .before in
+    wrote-then
+    (wrote-then (at-put-bytes .put-bytes .ensures) (at-put-numbers .put-numbers .ensures)) (at-put-byte .put-byte .ensures)
 
 pub put-refusal-spec : {M : Type 1} → statement M
 put-refusal-spec =

@@ -22,7 +22,16 @@ same-length : tie.Need-same-length
 same-length c = search needs
 
 returns : tie.Need-returns
-returns c = let size = c .before .before .before .before .before .before .before .before .before .size-of .ensures ∙ ap natAbs (toZ-ofZ (c .before .before .before .before .before .before .before .before .before .before .before .fits .h)) in rw (shown-below (c .before .before .before .before .before .before .before .before .before .before .before .args .h) (rw (toZ-ofZ (c .before .before .before .before .before .before .before .before .before .before .before .fits .h)) at (c .before .before .before .before .before .before .before .before .if1 .taken)), ← size) (wrote-then (c .before .before .before .before .before .before .put-byte .ensures) (c .before .before .put-hundredths .ensures))
+returns c =
+    let at-put-hundredths = c .before .before in
+    let at-put-byte = at-put-hundredths .before .before .before .before in
+    let at-if1 = at-put-byte .before .before in
+    let at-size-of = at-if1 .before in
+    let start = at-size-of .before .before in
+    let size = at-size-of .size-of .ensures ∙ ap natAbs (toZ-ofZ (start .fits .h)) in
+    rw
+    (shown-below (start .args .h) (rw (toZ-ofZ (start .fits .h)) at (at-if1 .if1 .taken)), ← size)
+    (wrote-then (at-put-byte .put-byte .ensures) (at-put-hundredths .put-hundredths .ensures))
 
 put-hundredths-requires-2 : tie.Need-put-hundredths-requires-2
 put-hundredths-requires-2 c κs = search needs
@@ -31,7 +40,15 @@ same-length-2 : tie.Need-same-length-2
 same-length-2 c = search needs
 
 returns-2 : tie.Need-returns-2
-returns-2 c = let size = c .before .before .before .before .before .size-of .ensures ∙ ap natAbs (toZ-ofZ (c .before .before .before .before .before .before .before .fits .h)) in rw (shown-above (c .before .before .before .before .before .before .before .args .h) (rw (toZ-ofZ (c .before .before .before .before .before .before .before .fits .h)) at (c .before .before .before .before .if1 .left)), ← size) (c .before .before .put-hundredths2 .ensures)
+returns-2 c =
+    let at-put-hundredths2 = c .before .before in
+    let at-if1 = at-put-hundredths2 .before .before in
+    let at-size-of = at-if1 .before in
+    let start = at-size-of .before .before in
+    let size = at-size-of .size-of .ensures ∙ ap natAbs (toZ-ofZ (start .fits .h)) in
+    rw
+    (shown-above (start .args .h) (rw (toZ-ofZ (start .fits .h)) at (at-if1 .if1 .left)), ← size)
+    (at-put-hundredths2 .put-hundredths2 .ensures)
 
 pub put-shown-spec : {M : Type 1} → statement M
 put-shown-spec =

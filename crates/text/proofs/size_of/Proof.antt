@@ -60,22 +60,39 @@ module _ (z : ℤ) (fits : SFits w64 z) (below : ltZ (held z) (pos 0) ≡ true) 
   size-is = add-one (mag z) ∙ rw is-negative
 
 add-result : tie.Need-add-result
-add-result c = rw (successor (c .before .args .z) (c .before .fits .z) (c .if1 .taken)) (opposite-fits (mag (c .before .args .z)) (c .before .fits .z .sfits))
+add-result c =
+    rw
+    (successor (c .before .args .z) (c .before .fits .z) (c .if1 .taken))
+    (opposite-fits (mag (c .before .args .z)) (c .before .fits .z .sfits))
 
 sub-result : tie.Need-sub-result
-sub-result c = rw (opposite (c .before .args .z) (c .before .fits .z) (c .if1 .taken)) (record { sfits = c .before .fits .z .sfits })
+sub-result c =
+    rw (opposite (c .before .args .z) (c .before .fits .z) (c .if1 .taken)) (record { sfits = c .before .fits .z .sfits })
 
 cast-result : tie.Need-cast-result
-cast-result c = rw (opposite-held (c .before .args .z) (c .before .fits .z) (c .if1 .taken)) (tt, record { fits = omega (arith, c .before .fits .z .sfits) })
+cast-result c =
+    rw
+    (opposite-held (c .before .args .z) (c .before .fits .z) (c .if1 .taken))
+    (tt, record { fits = omega (arith, c .before .fits .z .sfits) })
 
 add-result-2 : tie.Need-add-result-2
-add-result-2 c = rw (opposite-held (c .before .args .z) (c .before .fits .z) (c .if1 .taken)) (record { fits = omega (arith, c .before .fits .z .sfits) })
+add-result-2 c =
+    rw
+    (opposite-held (c .before .args .z) (c .before .fits .z) (c .if1 .taken))
+    (record { fits = omega (arith, c .before .fits .z .sfits) })
 
 returns : tie.Need-returns
-returns c = rw (opposite-held (c .before .args .z) (c .before .fits .z) (c .if1 .taken)) (size-is (c .before .args .z) (c .before .fits .z) (c .if1 .taken))
+returns c =
+    rw
+    (opposite-held (c .before .args .z) (c .before .fits .z) (c .if1 .taken))
+    (size-is (c .before .args .z) (c .before .fits .z) (c .if1 .taken))
 
 cast-result-2 : tie.Need-cast-result-2
-cast-result-2 c = rw (toZ-ofZ (c .before .fits .z)) (not-negative (c .before .args .z) (rw (toZ-ofZ (c .before .fits .z)) at (c .if1 .left)), fits-natAbs tt (c .before .fits .z))
+cast-result-2 c =
+    rw (toZ-ofZ (c .before .fits .z)) (
+      not-negative (c .before .args .z) (rw (toZ-ofZ (c .before .fits .z)) at (c .if1 .left)),
+      fits-natAbs tt (c .before .fits .z),
+    )
 
 returns-2 : tie.Need-returns-2
 returns-2 c = search needs

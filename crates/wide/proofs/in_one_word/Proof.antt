@@ -15,7 +15,8 @@ returns c =
   where
     half-words : (a b : ℕ) → a < 4294967296 → b < 4294967296 → a * b < 2 ^ 64
     half-words a b small narrow =
-        let largest : a * b ≤ 4294967295 * 4294967295 = mul-le-mul {n₂ = 4294967295} {m₂ = 4294967295} (omega arith) (omega arith) in
+        let largest : a * b ≤ 4294967295 * 4294967295 =
+        mul-le-mul {n₂ = 4294967295} {m₂ = 4294967295} (omega arith) (omega arith) in
         omega (arith, largest)
 
 returns-2 : tie.Need-returns-2

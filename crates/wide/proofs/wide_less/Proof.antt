@@ -24,7 +24,8 @@ returns-2 c =
     let right = c .before .before .before .before .before .product2 in
     cc
     (high-words-decide (2 ^ 64) (left .result .high) (right .result .high) (left .result .low) (right .result .low)
-    (c .before .before .before .before .struct-known .given .1 .0 .fits) (c .before .before .before .struct-known2 .given .1 .0 .fits) (c .before .before .if1 .left))
+    (c .before .before .before .before .struct-known .given .1 .0 .fits)
+    (c .before .before .before .struct-known2 .given .1 .0 .fits) (c .before .before .if1 .left))
 
 pub wide-less-spec : {M : Type 1} → statement M
 wide-less-spec = tie.close (tie.spec product-requires product-requires-2 returns returns-2)

@@ -33,7 +33,9 @@ array-share-prefix-populations : tie.Need-array-share-prefix-populations
 array-share-prefix-populations c = each-read _ _ (c .before .before .before .read .ensures) (c .before .if1 .left)
 
 slice-aggregate-open : tie.Need-slice-aggregate-open
-slice-aggregate-open c = sym (length-take-le _ _ (each-read _ _ (c .before .before .before .before .read .ensures) (c .before .before .if1 .left)))
+slice-aggregate-open c =
+    sym
+    (length-take-le _ _ (each-read _ _ (c .before .before .before .before .read .ensures) (c .before .before .if1 .left)))
 
 open-requires : tie.Need-open-requires
 open-requires c κs = search needs

@@ -42,7 +42,8 @@ returns-2 c =
     let aim-of = c .before .before .before .before .before .aim-of in
     let start = c .before .before .before .before .before .before .before .before .before .before .before .before in
     let fill-rounded2 = c .before .before .fill-rounded2 in
-    record { aim = aim-of .result; aimFits = omega (arith, start .pre .houseFits, aim-of .ensures); filled = fill-rounded2 .ensures }
+    record
+    { aim = aim-of .result; aimFits = omega (arith, start .pre .houseFits, aim-of .ensures); filled = fill-rounded2 .ensures }
 
 pub fill-near-spec : {M : Type 1} → statement M
 fill-near-spec =

@@ -39,7 +39,8 @@ add-given : tie.Need-add-given Inv-loop μ-loop
 add-given c =
     let start = c .before .before .before .before .before .before in
     let turn = c .before .before .before .loop in
-    let own = own-at-most (start .args .method) (start .pre .0) (start .pre .1) (turn .i) (c .rounded-of .result) (c .rounded-of .ensures) in
+    let own = own-at-most (start .args .method) (start .pre .0) (start .pre .1) (turn .i) (c .rounded-of .result)
+    (c .rounded-of .ensures) in
     omega (arith, own, turn .inv .small, start .pre .0 .few)
 
 add-i : tie.Need-add-i Inv-loop μ-loop
@@ -53,7 +54,8 @@ loop-again c =
     let start = c .before .before .before .before .before .before in
     let turn = c .before .before .before .loop in
     let loop-test = c .before .before .loop-test in
-    filling-more (start .args .method) (start .pre .0) (start .pre .1) (c .rounded-of .result) (turn .inv) (loop-test .taken) (c .rounded-of .ensures)
+    filling-more (start .args .method) (start .pre .0) (start .pre .1) (c .rounded-of .result) (turn .inv)
+    (loop-test .taken) (c .rounded-of .ensures)
 
 same-length : tie.Need-same-length Inv-loop μ-loop
 same-length c = search needs

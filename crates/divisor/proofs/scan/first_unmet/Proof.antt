@@ -25,7 +25,9 @@ unfolding firstPlace
 loop-holds c = (omega arith, omega (arith, c .before .before .before .pre .some), c .wanting .ensures)
 
 wanting-requires-2 : tie.Need-wanting-requires-2 Inv-loop μ-loop
-wanting-requires-2 c κs = (c .before .before .before .before .before .pre, c .loop-test .taken)
+wanting-requires-2 c κs =
+    let start = c .before .before .before .before .before in
+    (start .pre, c .loop-test .taken)
 
 earlier-of-requires : tie.Need-earlier-of-requires Inv-loop μ-loop
 earlier-of-requires c κs = search needs
@@ -40,8 +42,11 @@ loop-again : tie.Need-loop-again Inv-loop μ-loop
 loop-again c =
     let loop-test = c .before .before .loop-test in
     let turn = c .before .before .before .loop in
-    let wanting2 = c .before .wanting2 in
-    (omega arith, omega (arith, loop-test .taken), rw (c .earlier-of .ensures, turn .inv .2, wanting2 .ensures) (first-so-far _ _ _ (turn .i) (turn .inv .0)))
+    let wanting2 = c .before .wanting2 in (
+      omega arith,
+      omega (arith, loop-test .taken),
+      rw (c .earlier-of .ensures, turn .inv .2, wanting2 .ensures) (first-so-far _ _ _ (turn .i) (turn .inv .0)),
+    )
 
 returns : tie.Need-returns Inv-loop μ-loop
 returns c = first-of-all _ _ _ (c .before .loop .inv .2) (omega arith)

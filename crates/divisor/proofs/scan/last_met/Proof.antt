@@ -25,7 +25,9 @@ unfolding firstPlace
 loop-holds c = (omega arith, omega (arith, c .before .before .before .pre .some), c .giving .ensures)
 
 giving-requires-2 : tie.Need-giving-requires-2 Inv-loop μ-loop
-giving-requires-2 c κs = (c .before .before .before .before .before .pre, c .loop-test .taken)
+giving-requires-2 c κs =
+    let start = c .before .before .before .before .before in
+    (start .pre, c .loop-test .taken)
 
 later-of-requires : tie.Need-later-of-requires Inv-loop μ-loop
 later-of-requires c κs = search needs
@@ -40,8 +42,11 @@ loop-again : tie.Need-loop-again Inv-loop μ-loop
 loop-again c =
     let loop-test = c .before .before .loop-test in
     let turn = c .before .before .before .loop in
-    let giving2 = c .before .giving2 in
-    (omega arith, omega (arith, loop-test .taken), rw (c .later-of .ensures, turn .inv .2, giving2 .ensures) (last-so-far _ _ _ (turn .i) (turn .inv .0)))
+    let giving2 = c .before .giving2 in (
+      omega arith,
+      omega (arith, loop-test .taken),
+      rw (c .later-of .ensures, turn .inv .2, giving2 .ensures) (last-so-far _ _ _ (turn .i) (turn .inv .0)),
+    )
 
 returns : tie.Need-returns Inv-loop μ-loop
 returns c = last-of-all _ _ _ (c .before .loop .inv .2) (omega arith)

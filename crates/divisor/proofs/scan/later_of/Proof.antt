@@ -26,14 +26,22 @@ unfolding laterOf
 returns-3 c =
     let start = c .before .before .before .before .before .before .before .before in
     let claim-less = c .before .claim-less in
-    simp (lt-ltb 0 (start .args .next .seats) (omega arith), lt-ltb 0 (start .args .best .seats) (omega arith), sym (claim-less .ensures) ∙ c .if3 .taken)
+    simp (
+      lt-ltb 0 (start .args .next .seats) (omega arith),
+      lt-ltb 0 (start .args .best .seats) (omega arith),
+      sym (claim-less .ensures) ∙ c .if3 .taken,
+    )
 
 returns-4 : tie.Need-returns-4
 unfolding laterOf
 returns-4 c =
     let start = c .before .before .before .before .before .before .before .before in
     let claim-less = c .before .claim-less in
-    simp (lt-ltb 0 (start .args .next .seats) (omega arith), lt-ltb 0 (start .args .best .seats) (omega arith), sym (claim-less .ensures) ∙ c .if3 .left)
+    simp (
+      lt-ltb 0 (start .args .next .seats) (omega arith),
+      lt-ltb 0 (start .args .best .seats) (omega arith),
+      sym (claim-less .ensures) ∙ c .if3 .left,
+    )
 
 pub later-of-spec : {M : Type 1} → statement M
 later-of-spec = tie.close (tie.spec returns returns-2 claim-less-requires returns-3 returns-4)

@@ -34,7 +34,9 @@ returns-2 : tie.Need-returns-2 Inv-loop μ-loop
 returns-2 c =
     let a = c .before .before .before .before .before .before .args in
     let l = c .before .before .before .before .before .loop in
-    sym (l .inv .1 ∙ between-above (a .lo) (a .hi) (a .s .now) (l .i) (omega arith) (c .before .before .if1 .left) (c .if2 .taken))
+    sym
+    (l .inv .1 ∙ between-above (a .lo) (a .hi) (a .s .now) (l .i) (omega arith) (c .before .before .if1 .left)
+    (c .if2 .taken))
 
 add-i : tie.Need-add-i Inv-loop μ-loop
 add-i c = search needs
@@ -45,8 +47,11 @@ loop-less c = search needs
 loop-again : tie.Need-loop-again Inv-loop μ-loop
 loop-again c =
     let a = c .before .before .before .before .before .before .args in
-    let l = c .before .before .before .before .before .loop in
-    (omega arith, l .inv .1 ∙ between-passed (a .lo) (a .hi) (a .s .now) (l .i) (omega arith) (c .before .before .if1 .left) (c .if2 .left))
+    let l = c .before .before .before .before .before .loop in (
+      omega arith,
+      l .inv .1 ∙ between-passed (a .lo) (a .hi) (a .s .now) (l .i) (omega arith) (c .before .before .if1 .left)
+          (c .if2 .left),
+    )
 
 returns-3 : tie.Need-returns-3 Inv-loop μ-loop
 returns-3 c =

@@ -20,22 +20,29 @@ not-adams c = sym (c .before .same2 .ensures) ∙ c .if2 .left
 
 not-dean :
     (c : tie.Else3)
-    → sameList (c .before .before .before .before .before .before .before .before .before .before .args .f .now) (bytesOf "dean") ≡ false
+    → sameList (c .before .before .before .before .before .before .before .before .before .before .args .f .now)
+    (bytesOf "dean") ≡ false
 not-dean c = sym (c .before .same3 .ensures) ∙ c .if3 .left
 
 not-hill :
     (c : tie.Else4)
-    → sameList (c .before .before .before .before .before .before .before .before .before .before .before .before .before .args .f .now) (bytesOf "hill") ≡ false
+    → sameList
+    (c .before .before .before .before .before .before .before .before .before .before .before .before .before .args .f .now)
+    (bytesOf "hill") ≡ false
 not-hill c = sym (c .before .same4 .ensures) ∙ c .if4 .left
 
 not-webster :
     (c : tie.Else5)
-    → sameList (c .before .before .before .before .before .before .before .before .before .before .before .before .before .before .before .before .args .f .now) (bytesOf "webster") ≡ false
+    → sameList
+    (c .before .before .before .before .before .before .before .before .before .before .before .before .before .before .before .before .args .f .now)
+    (bytesOf "webster") ≡ false
 not-webster c = sym (c .before .same5 .ensures) ∙ c .if5 .left
 
 not-jefferson :
     (c : tie.Else6)
-    → sameList (c .before .before .before .before .before .before .before .before .before .before .before .before .before .before .before .before .before .before .before .args .f .now) (bytesOf "jefferson") ≡ false
+    → sameList
+    (c .before .before .before .before .before .before .before .before .before .before .before .before .before .before .before .before .before .before .before .args .f .now)
+    (bytesOf "jefferson") ≡ false
 not-jefferson c = sym (c .before .same6 .ensures) ∙ c .if6 .left
 
 slice-aggregate-same : tie.Need-slice-aggregate-same
@@ -116,7 +123,8 @@ returns-6 : tie.Need-returns-6
 unfolding methodNamed methodText
 returns-6 c =
     simp (
-      not-leximin (c .before .before .before .before .before .before .before .before .before .before .before .before .before .before .before),
+      not-leximin
+          (c .before .before .before .before .before .before .before .before .before .before .before .before .before .before .before),
       not-adams (c .before .before .before .before .before .before .before .before .before .before .before .before),
       not-dean (c .before .before .before .before .before .before .before .before .before),
       not-hill (c .before .before .before .before .before .before),
@@ -134,8 +142,10 @@ returns-7 : tie.Need-returns-7
 unfolding methodNamed methodText
 returns-7 c =
     simp (
-      not-leximin (c .before .before .before .before .before .before .before .before .before .before .before .before .before .before .before .before .before .before),
-      not-adams (c .before .before .before .before .before .before .before .before .before .before .before .before .before .before .before),
+      not-leximin
+          (c .before .before .before .before .before .before .before .before .before .before .before .before .before .before .before .before .before .before),
+      not-adams
+          (c .before .before .before .before .before .before .before .before .before .before .before .before .before .before .before),
       not-dean (c .before .before .before .before .before .before .before .before .before .before .before .before),
       not-hill (c .before .before .before .before .before .before .before .before .before),
       not-webster (c .before .before .before .before .before .before),
@@ -147,8 +157,10 @@ returns-8 : tie.Need-returns-8
 unfolding methodNamed methodText
 returns-8 c =
     simp (
-      not-leximin (c .before .before .before .before .before .before .before .before .before .before .before .before .before .before .before .before .before .before),
-      not-adams (c .before .before .before .before .before .before .before .before .before .before .before .before .before .before .before),
+      not-leximin
+          (c .before .before .before .before .before .before .before .before .before .before .before .before .before .before .before .before .before .before),
+      not-adams
+          (c .before .before .before .before .before .before .before .before .before .before .before .before .before .before .before),
       not-dean (c .before .before .before .before .before .before .before .before .before .before .before .before),
       not-hill (c .before .before .before .before .before .before .before .before .before),
       not-webster (c .before .before .before .before .before .before),

@@ -13,19 +13,30 @@ first-unmet-requires : tie.Need-first-unmet-requires
 first-unmet-requires c κs = search needs
 
 mul-seats : tie.Need-mul-seats
-mul-seats c = scaled-fits _ _ 8 (unmet-inside (c .before .before .before .before .pre) (c .first-unmet .ensures)) (c .before .before .before .before .good .1 .0 .1)
+mul-seats c =
+    scaled-fits _ _ 8
+    (unmet-inside (c .before .before .before .before .pre) (c .first-unmet .ensures))
+    (c .before .before .before .before .good .1 .0 .1)
 
 slice-read-seats : tie.Need-slice-read-seats
-slice-read-seats c = unmet-inside (c .before .before .before .before .before .pre) (c .before .first-unmet .ensures)
+slice-read-seats c =
+    let start = c .before .before .before .before .before in
+    unmet-inside (start .pre) (c .before .first-unmet .ensures)
 
 add-seats : tie.Need-add-seats
-add-seats c = omega (arith, c .before .before .before .before .before .pre .seatsFit (c .before .first-unmet .result))
+add-seats c =
+    let start = c .before .before .before .before .before in
+    omega (arith, start .pre .seatsFit (c .before .first-unmet .result))
 
 mul-seats-2 : tie.Need-mul-seats-2
-mul-seats-2 c = scaled-fits _ _ 8 (unmet-inside (c .before .before .before .before .before .pre) (c .before .first-unmet .ensures)) (c .before .before .before .before .before .good .1 .0 .1)
+mul-seats-2 c =
+    let start = c .before .before .before .before .before in
+    scaled-fits _ _ 8 (unmet-inside (start .pre) (c .before .first-unmet .ensures)) (start .good .1 .0 .1)
 
 slice-write-seats : tie.Need-slice-write-seats
-slice-write-seats c = unmet-inside (c .before .before .before .before .before .pre) (c .before .first-unmet .ensures)
+slice-write-seats c =
+    let start = c .before .before .before .before .before in
+    unmet-inside (start .pre) (c .before .first-unmet .ensures)
 
 same-length : tie.Need-same-length
 same-length c = search needs

@@ -15,7 +15,8 @@ use Rattle.leximin.proofs.moves.place_times.Statement.{statement}
 use Rattle.leximin.proofs.moves.place_times.Tie as tie
 
 abbrev Inv-loop : tie.InvT-loop
-Inv-loop populations seats₀ total house times done₀ seats done = (done ≤ times) × (seats ≡ placedTimes (sizeTest populations house) (length populations) seats₀ done)
+Inv-loop populations seats₀ total house times done₀ seats done =
+    (done ≤ times) × (seats ≡ placedTimes (sizeTest populations house) (length populations) seats₀ done)
 
 abbrev μ-loop : tie.MeasureT-loop
 μ-loop populations seats₀ total house times done₀ seats done = times - done
@@ -25,17 +26,29 @@ unfolding placedTimes
 loop-holds c = (search needs, refl)
 
 place-requires : tie.Need-place-requires Inv-loop μ-loop
-place-requires c κs = rw (c .before .before .loop .inv .1) (placed-workable _ _ _ _ (c .before .before .loop .done) (c .before .before .before .before .before .pre .0) (omega (arith, c .before .before .before .before .before .pre .1, c .before .loop-test .taken)))
+place-requires c κs =
+    let at-loop = c .before .before in
+    let start = at-loop .before .before .before in
+    rw (at-loop .loop .inv .1)
+    (placed-workable _ _ _ _ (at-loop .loop .done) (start .pre .0)
+    (omega (arith, start .pre .1, c .before .loop-test .taken)))
 
 add-done : tie.Need-add-done Inv-loop μ-loop
-add-done c = omega (arith, c .before .before .before .before .loop-test .taken, c .before .before .before .before .before .before .before .before .fits .times)
+add-done c =
+    let at-test = c .before .before .before .before in
+    let at-fits = at-test .before .before .before .before in
+    omega (arith, at-test .loop-test .taken, at-fits .fits .times)
 
 loop-less : tie.Need-loop-less Inv-loop μ-loop
 loop-less c = search needs
 
 loop-again : tie.Need-loop-again Inv-loop μ-loop
 unfolding placedTimes
-loop-again c = (omega (arith, c .before .before .before .before .loop-test .taken), c .before .before .place .ensures ∙ rw (add-one, c .before .before .before .before .before .loop .inv .1))
+loop-again c =
+    let at-place = c .before .before in
+    let at-test = at-place .before .before in
+    let at-loop = at-test .before in
+    (omega (arith, at-test .loop-test .taken), at-place .place .ensures ∙ rw (add-one, at-loop .loop .inv .1))
 
 same-length : tie.Need-same-length Inv-loop μ-loop
 same-length c = rw (c .before .loop .inv .1) (length-placedTimes _ _ _ _)

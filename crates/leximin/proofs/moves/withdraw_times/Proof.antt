@@ -15,7 +15,8 @@ use Rattle.leximin.proofs.moves.withdraw_times.Statement.{statement}
 use Rattle.leximin.proofs.moves.withdraw_times.Tie as tie
 
 abbrev Inv-loop : tie.InvT-loop
-Inv-loop populations seats₀ total house times done₀ seats done = (done ≤ times) × (seats ≡ withdrawnTimes oneEach (sizeTest populations house) (length populations) seats₀ done)
+Inv-loop populations seats₀ total house times done₀ seats done =
+    (done ≤ times) × (seats ≡ withdrawnTimes oneEach (sizeTest populations house) (length populations) seats₀ done)
 
 abbrev μ-loop : tie.MeasureT-loop
 μ-loop populations seats₀ total house times done₀ seats done = times - done
@@ -25,17 +26,27 @@ unfolding withdrawnTimes
 loop-holds c = (search needs, refl)
 
 withdraw-requires : tie.Need-withdraw-requires Inv-loop μ-loop
-withdraw-requires c κs = rw (c .before .before .loop .inv .1) (withdrawn-seated _ _ _ _ (c .before .before .loop .done) _ (c .before .before .before .before .before .pre) (c .before .before .loop .inv .0))
+withdraw-requires c κs =
+    let at-loop = c .before .before in
+    let start = at-loop .before .before .before in
+    rw (at-loop .loop .inv .1) (withdrawn-seated _ _ _ _ (at-loop .loop .done) _ (start .pre) (at-loop .loop .inv .0))
 
 add-done : tie.Need-add-done Inv-loop μ-loop
-add-done c = omega (arith, c .before .before .before .before .loop-test .taken, c .before .before .before .before .before .before .before .before .fits .times)
+add-done c =
+    let at-test = c .before .before .before .before in
+    let at-fits = at-test .before .before .before .before in
+    omega (arith, at-test .loop-test .taken, at-fits .fits .times)
 
 loop-less : tie.Need-loop-less Inv-loop μ-loop
 loop-less c = search needs
 
 loop-again : tie.Need-loop-again Inv-loop μ-loop
 unfolding withdrawnTimes
-loop-again c = (omega (arith, c .before .before .before .before .loop-test .taken), c .before .before .withdraw .ensures ∙ rw (add-one, c .before .before .before .before .before .loop .inv .1))
+loop-again c =
+    let at-withdraw = c .before .before in
+    let at-test = at-withdraw .before .before in
+    let at-loop = at-test .before in
+    (omega (arith, at-test .loop-test .taken), at-withdraw .withdraw .ensures ∙ rw (add-one, at-loop .loop .inv .1))
 
 same-length : tie.Need-same-length Inv-loop μ-loop
 same-length c = rw (c .before .loop .inv .1) (length-withdrawnTimes _ _ _ _ _)

@@ -15,7 +15,9 @@ use Rattle.leximin.proofs.scan.first_unmet.Statement.{statement}
 use Rattle.leximin.proofs.scan.first_unmet.Tie as tie
 
 abbrev Inv-loop : tie.InvT-loop
-Inv-loop populations seats total house best₀ i₀ best i = (0 < i) × (i ≤ length populations) × CandidateIs populations seats total house (firstPlace (wantsBefore (sizeTest populations house) seats) (i - 1)) best
+Inv-loop populations seats total house best₀ i₀ best i =
+    (0 < i) × (i ≤ length populations) × CandidateIs populations seats total house
+    (firstPlace (wantsBefore (sizeTest populations house) seats) (i - 1)) best
 
 abbrev μ-loop : tie.MeasureT-loop
 μ-loop populations seats total house best₀ i₀ best i = length populations - i
@@ -27,7 +29,10 @@ shared-slice-read-move-of-2 : tie.Need-shared-slice-read-move-of-2 Inv-loop μ-l
 shared-slice-read-move-of-2 c = search needs
 
 move-of-requires : tie.Need-move-of-requires Inv-loop μ-loop
-move-of-requires c κs = measured (counted (c .before .before .before .before .pre .counts) 0) (omega (arith, c .before .before .before .before .pre .seatsFit 0))
+move-of-requires c κs =
+    measured
+    (counted (c .before .before .before .before .pre .counts) 0)
+    (omega (arith, c .before .before .before .before .pre .seatsFit 0))
 
 loop-holds : tie.Need-loop-holds Inv-loop μ-loop
 unfolding firstPlace
@@ -46,19 +51,34 @@ shared-slice-read-move-of-4 : tie.Need-shared-slice-read-move-of-4 Inv-loop μ-l
 shared-slice-read-move-of-4 c = search needs
 
 move-of-requires-2 : tie.Need-move-of-requires-2 Inv-loop μ-loop
-move-of-requires-2 c κs = measured (counted (c .before .before .before .before .before .before .before .before .before .pre .counts) (c .before .before .before .loop .i)) (omega (arith, c .before .before .before .before .before .before .before .before .before .pre .seatsFit (c .before .before .before .loop .i)))
+move-of-requires-2 c κs =
+    let at-loop = c .before .before .before in
+    let start = at-loop .before .before .before .before .before .before in
+    measured (counted (start .pre .counts) (at-loop .loop .i)) (omega (arith, start .pre .seatsFit (at-loop .loop .i)))
 
 better-requires : tie.Need-better-requires Inv-loop μ-loop
 better-requires c κs = (c .before .before .before .before .loop .inv .2 .claim .small, c .move-of2 .ensures .small)
 
 add-i : tie.Need-add-i Inv-loop μ-loop
-add-i c = omega (arith, c .before .before .before .before .loop-test .taken, c .before .before .before .before .before .before .before .before .before .before .before .good .0 .0)
+add-i c =
+    let at-test = c .before .before .before .before in
+    let at-good = at-test .before .before .before .before .before .before .before in
+    omega (arith, at-test .loop-test .taken, at-good .good .0 .0)
 
 loop-less : tie.Need-loop-less Inv-loop μ-loop
 loop-less c = search needs
 
 loop-again : tie.Need-loop-again Inv-loop μ-loop
-loop-again c = (omega arith, omega (arith, c .before .before .before .before .loop-test .taken), rw (c .better .ensures) (better-next _ _ _ _ (c .before .before .before .before .before .before .before .before .before .before .before .pre .counts) (c .before .before .before .before .before .loop .i) (c .before .before .before .before .before .loop .inv .0) (c .before .before .before .before .before .loop .inv .2) (c .before .move-of2 .ensures)))
+loop-again c =
+    let at-test = c .before .before .before .before in
+    let at-loop = at-test .before in
+    let start = at-loop .before .before .before .before .before .before in (
+      omega arith,
+      omega (arith, at-test .loop-test .taken),
+      rw (c .better .ensures)
+          (better-next _ _ _ _ (start .pre .counts) (at-loop .loop .i) (at-loop .loop .inv .0) (at-loop .loop .inv .2)
+          (c .before .move-of2 .ensures)),
+    )
 
 returns : tie.Need-returns Inv-loop μ-loop
 unfolding firstUnmet

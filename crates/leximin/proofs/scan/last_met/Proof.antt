@@ -14,7 +14,9 @@ use Rattle.leximin.proofs.scan.last_met.Statement.{statement}
 use Rattle.leximin.proofs.scan.last_met.Tie as tie
 
 abbrev Inv-loop : tie.InvT-loop
-Inv-loop populations seats total house best₀ i₀ best i = (0 < i) × (i ≤ length populations) × GiverIs populations seats total house (firstPlace (givesUpBefore oneEach (sizeTest populations house) seats) (i - 1)) best
+Inv-loop populations seats total house best₀ i₀ best i =
+    (0 < i) × (i ≤ length populations) × GiverIs populations seats total house
+    (firstPlace (givesUpBefore oneEach (sizeTest populations house) seats) (i - 1)) best
 
 abbrev μ-loop : tie.MeasureT-loop
 μ-loop populations seats total house best₀ i₀ best i = length populations - i
@@ -26,7 +28,12 @@ shared-slice-read-giver-of-2 : tie.Need-shared-slice-read-giver-of-2 Inv-loop μ
 shared-slice-read-giver-of-2 c = search needs
 
 giver-of-requires : tie.Need-giver-of-requires Inv-loop μ-loop
-giver-of-requires c κs = (measured (counted (c .before .before .before .before .pre .workable .counts) 0) (omega (arith, c .before .before .before .before .pre .workable .seatsFit 0)), c .before .before .before .before .pre .least 0 (c .before .before .before .before .pre .workable .someState))
+giver-of-requires c κs = (
+  measured
+      (counted (c .before .before .before .before .pre .workable .counts) 0)
+      (omega (arith, c .before .before .before .before .pre .workable .seatsFit 0)),
+  c .before .before .before .before .pre .least 0 (c .before .before .before .before .pre .workable .someState),
+)
 
 loop-holds : tie.Need-loop-holds Inv-loop μ-loop
 unfolding firstPlace
@@ -45,19 +52,39 @@ shared-slice-read-giver-of-4 : tie.Need-shared-slice-read-giver-of-4 Inv-loop μ
 shared-slice-read-giver-of-4 c = search needs
 
 giver-of-requires-2 : tie.Need-giver-of-requires-2 Inv-loop μ-loop
-giver-of-requires-2 c κs = (measured (counted (c .before .before .before .before .before .before .before .before .before .pre .workable .counts) (c .before .before .before .loop .i)) (omega (arith, c .before .before .before .before .before .before .before .before .before .pre .workable .seatsFit (c .before .before .before .loop .i))), c .before .before .before .before .before .before .before .before .before .pre .least (c .before .before .before .loop .i) (c .before .before .loop-test .taken))
+giver-of-requires-2 c κs =
+    let at-test = c .before .before in
+    let at-loop = at-test .before in
+    let start = at-loop .before .before .before .before .before .before in (
+      measured
+          (counted (start .pre .workable .counts) (at-loop .loop .i))
+          (omega (arith, start .pre .workable .seatsFit (at-loop .loop .i))),
+      start .pre .least (at-loop .loop .i) (at-test .loop-test .taken),
+    )
 
 prefer-requires : tie.Need-prefer-requires Inv-loop μ-loop
 prefer-requires c κs = (c .before .before .before .before .loop .inv .2 .claim .small, c .giver-of2 .ensures .claim .small)
 
 add-i : tie.Need-add-i Inv-loop μ-loop
-add-i c = omega (arith, c .before .before .before .before .loop-test .taken, c .before .before .before .before .before .before .before .before .before .before .before .good .0 .0)
+add-i c =
+    let at-test = c .before .before .before .before in
+    let at-good = at-test .before .before .before .before .before .before .before in
+    omega (arith, at-test .loop-test .taken, at-good .good .0 .0)
 
 loop-less : tie.Need-loop-less Inv-loop μ-loop
 loop-less c = search needs
 
 loop-again : tie.Need-loop-again Inv-loop μ-loop
-loop-again c = (omega arith, omega (arith, c .before .before .before .before .loop-test .taken), rw (c .prefer .ensures) (prefer-next _ _ _ _ (c .before .before .before .before .before .before .before .before .before .before .before .pre .workable .counts) (c .before .before .before .before .before .loop .i) (c .before .before .before .before .before .loop .inv .0) (c .before .before .before .before .before .loop .inv .2) (c .before .giver-of2 .ensures)))
+loop-again c =
+    let at-test = c .before .before .before .before in
+    let at-loop = at-test .before in
+    let start = at-loop .before .before .before .before .before .before in (
+      omega arith,
+      omega (arith, at-test .loop-test .taken),
+      rw (c .prefer .ensures)
+          (prefer-next _ _ _ _ (start .pre .workable .counts) (at-loop .loop .i) (at-loop .loop .inv .0) (at-loop .loop .inv .2)
+          (c .before .giver-of2 .ensures)),
+    )
 
 returns : tie.Need-returns Inv-loop μ-loop
 unfolding lastMet

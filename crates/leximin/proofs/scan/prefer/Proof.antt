@@ -11,11 +11,21 @@ move-less-requires c κs = search needs
 
 returns : tie.Need-returns
 unfolding preferOf
-returns c = simp (c .before .before .before .if1 .taken, c .before .before .if2 .taken, sym (c .before .move-less .ensures) ∙ c .if3 .taken)
+returns c =
+    simp (
+      c .before .before .before .if1 .taken,
+      c .before .before .if2 .taken,
+      sym (c .before .move-less .ensures) ∙ c .if3 .taken,
+    )
 
 returns-2 : tie.Need-returns-2
 unfolding preferOf
-returns-2 c = simp (c .before .before .before .if1 .taken, c .before .before .if2 .taken, sym (c .before .move-less .ensures) ∙ c .if3 .left)
+returns-2 c =
+    simp (
+      c .before .before .before .if1 .taken,
+      c .before .before .if2 .taken,
+      sym (c .before .move-less .ensures) ∙ c .if3 .left,
+    )
 
 returns-3 : tie.Need-returns-3
 unfolding preferOf

@@ -15,10 +15,18 @@ move-less-requires-2 : tie.Need-move-less-requires-2
 move-less-requires-2 c κs = search needs
 
 returns-2 : tie.Need-returns-2
-returns-2 c = simp (sym (c .before .before .before .move-less .ensures) ∙ c .before .before .if1 .left, sym (c .before .move-less2 .ensures) ∙ c .if2 .taken)
+returns-2 c =
+    simp (
+      sym (c .before .before .before .move-less .ensures) ∙ c .before .before .if1 .left,
+      sym (c .before .move-less2 .ensures) ∙ c .if2 .taken,
+    )
 
 returns-3 : tie.Need-returns-3
-returns-3 c = simp (sym (c .before .before .before .move-less .ensures) ∙ c .before .before .if1 .left, sym (c .before .move-less2 .ensures) ∙ c .if2 .left)
+returns-3 c =
+    simp (
+      sym (c .before .before .before .move-less .ensures) ∙ c .before .before .if1 .left,
+      sym (c .before .move-less2 .ensures) ∙ c .if2 .left,
+    )
 
 pub comes-before-spec : {M : Type 1} → statement M
 comes-before-spec =

@@ -17,52 +17,108 @@ first-unmet-requires : tie.Need-first-unmet-requires
 first-unmet-requires c κs = search needs
 
 mul-if1 : tie.Need-mul-if1
-mul-if1 c = scaled-fits _ _ 8 (met-inside (c .before .before .before .before .pre .workable) (c .before .last-met .ensures)) (c .before .before .before .before .good .1 .0 .1)
+mul-if1 c =
+    scaled-fits _ _ 8
+    (met-inside (c .before .before .before .before .pre .workable) (c .before .last-met .ensures))
+    (c .before .before .before .before .good .1 .0 .1)
 
 shared-slice-read-if1 : tie.Need-shared-slice-read-if1
-shared-slice-read-if1 c = met-inside (c .before .before .before .before .before .pre .workable) (c .before .before .last-met .ensures)
+shared-slice-read-if1 c =
+    let at-last-met = c .before .before in
+    let start = at-last-met .before .before .before in
+    met-inside (start .pre .workable) (at-last-met .last-met .ensures)
 
 returns : tie.Need-returns
-returns c = none-to-spare (c .before .before .before .before .before .before .pre) (c .before .before .before .last-met .ensures) (c .before .before .first-unmet .ensures) (c .if1 .taken)
+returns c =
+    let at-first-unmet = c .before .before in
+    let at-last-met = at-first-unmet .before in
+    let start = at-last-met .before .before .before in
+    none-to-spare (start .pre) (at-last-met .last-met .ensures) (at-first-unmet .first-unmet .ensures) (c .if1 .taken)
 
 mul-move-of : tie.Need-mul-move-of
-mul-move-of c = scaled-fits _ _ 8 (inside-states (c .before .before .before .before .before .before .pre .workable) (met-inside (c .before .before .before .before .before .before .pre .workable) (c .before .before .before .last-met .ensures))) (c .before .before .before .before .before .before .good .0 .1)
+mul-move-of c =
+    let at-last-met = c .before .before .before in
+    let start = at-last-met .before .before .before in
+    scaled-fits _ _ 8
+    (inside-states (start .pre .workable) (met-inside (start .pre .workable) (at-last-met .last-met .ensures)))
+    (start .good .0 .1)
 
 shared-slice-read-move-of : tie.Need-shared-slice-read-move-of
-shared-slice-read-move-of c = inside-states (c .before .before .before .before .before .before .before .pre .workable) (met-inside (c .before .before .before .before .before .before .before .pre .workable) (c .before .before .before .before .last-met .ensures))
+shared-slice-read-move-of c =
+    let at-last-met = c .before .before .before .before in
+    let start = at-last-met .before .before .before in
+    inside-states (start .pre .workable) (met-inside (start .pre .workable) (at-last-met .last-met .ensures))
 
 mul-move-of-2 : tie.Need-mul-move-of-2
-mul-move-of-2 c = scaled-fits _ _ 8 (met-inside (c .before .before .before .before .before .before .before .pre .workable) (c .before .before .before .before .last-met .ensures)) (c .before .before .before .before .before .before .before .good .1 .0 .1)
+mul-move-of-2 c =
+    let at-last-met = c .before .before .before .before in
+    let start = at-last-met .before .before .before in
+    scaled-fits _ _ 8 (met-inside (start .pre .workable) (at-last-met .last-met .ensures)) (start .good .1 .0 .1)
 
 shared-slice-read-move-of-2 : tie.Need-shared-slice-read-move-of-2
-shared-slice-read-move-of-2 c = met-inside (c .before .before .before .before .before .before .before .before .pre .workable) (c .before .before .before .before .before .last-met .ensures)
+shared-slice-read-move-of-2 c =
+    let at-last-met = c .before .before .before .before .before in
+    let start = at-last-met .before .before .before in
+    met-inside (start .pre .workable) (at-last-met .last-met .ensures)
 
 sub-move-of : tie.Need-sub-move-of
 sub-move-of c = search needs
 
 move-of-requires : tie.Need-move-of-requires
-move-of-requires c κs = measured (counted (c .before .before .before .before .before .before .before .before .pre .workable .counts) (c .before .before .before .before .before .last-met .result)) (omega (arith, c .before .before .before .before .before .before .before .before .pre .workable .seatsFit (c .before .before .before .before .before .last-met .result), c .before .before .if1 .left))
+move-of-requires c κs =
+    let at-if1 = c .before .before in
+    let at-last-met = at-if1 .before .before .before in
+    let start = at-last-met .before .before .before in
+    measured
+    (counted (start .pre .workable .counts) (at-last-met .last-met .result))
+    (omega (arith, start .pre .workable .seatsFit (at-last-met .last-met .result), at-if1 .if1 .left))
 
 mul-move-of-3 : tie.Need-mul-move-of-3
-mul-move-of-3 c = scaled-fits _ _ 8 (inside-states (c .before .before .before .before .before .before .before .before .before .pre .workable) (unmet-inside (c .before .before .before .before .before .before .before .before .before .pre .workable) (c .before .before .before .before .before .first-unmet .ensures))) (c .before .before .before .before .before .before .before .before .before .good .0 .1)
+mul-move-of-3 c =
+    let at-first-unmet = c .before .before .before .before .before in
+    let start = at-first-unmet .before .before .before .before in
+    scaled-fits _ _ 8
+    (inside-states (start .pre .workable) (unmet-inside (start .pre .workable) (at-first-unmet .first-unmet .ensures)))
+    (start .good .0 .1)
 
 shared-slice-read-move-of-3 : tie.Need-shared-slice-read-move-of-3
-shared-slice-read-move-of-3 c = inside-states (c .before .before .before .before .before .before .before .before .before .before .pre .workable) (unmet-inside (c .before .before .before .before .before .before .before .before .before .before .pre .workable) (c .before .before .before .before .before .before .first-unmet .ensures))
+shared-slice-read-move-of-3 c =
+    let at-first-unmet = c .before .before .before .before .before .before in
+    let start = at-first-unmet .before .before .before .before in
+    inside-states (start .pre .workable) (unmet-inside (start .pre .workable) (at-first-unmet .first-unmet .ensures))
 
 mul-move-of-4 : tie.Need-mul-move-of-4
-mul-move-of-4 c = scaled-fits _ _ 8 (unmet-inside (c .before .before .before .before .before .before .before .before .before .before .pre .workable) (c .before .before .before .before .before .before .first-unmet .ensures)) (c .before .before .before .before .before .before .before .before .before .before .good .1 .0 .1)
+mul-move-of-4 c =
+    let at-first-unmet = c .before .before .before .before .before .before in
+    let start = at-first-unmet .before .before .before .before in
+    scaled-fits _ _ 8 (unmet-inside (start .pre .workable) (at-first-unmet .first-unmet .ensures)) (start .good .1 .0 .1)
 
 shared-slice-read-move-of-4 : tie.Need-shared-slice-read-move-of-4
-shared-slice-read-move-of-4 c = unmet-inside (c .before .before .before .before .before .before .before .before .before .before .before .pre .workable) (c .before .before .before .before .before .before .before .first-unmet .ensures)
+shared-slice-read-move-of-4 c =
+    let at-first-unmet = c .before .before .before .before .before .before .before in
+    let start = at-first-unmet .before .before .before .before in
+    unmet-inside (start .pre .workable) (at-first-unmet .first-unmet .ensures)
 
 move-of-requires-2 : tie.Need-move-of-requires-2
-move-of-requires-2 c κs = measured (counted (c .before .before .before .before .before .before .before .before .before .before .before .pre .workable .counts) (c .before .before .before .before .before .before .before .first-unmet .result)) (omega (arith, c .before .before .before .before .before .before .before .before .before .before .before .pre .workable .seatsFit (c .before .before .before .before .before .before .before .first-unmet .result)))
+move-of-requires-2 c κs =
+    let at-first-unmet = c .before .before .before .before .before .before .before in
+    let start = at-first-unmet .before .before .before .before in
+    measured
+    (counted (start .pre .workable .counts) (at-first-unmet .first-unmet .result))
+    (omega (arith, start .pre .workable .seatsFit (at-first-unmet .first-unmet .result)))
 
 comes-before-requires : tie.Need-comes-before-requires
 comes-before-requires c κs = (c .before .before .before .move-of .ensures .small, c .move-of2 .ensures .small)
 
 returns-2 : tie.Need-returns-2
-returns-2 c = c .comes-before .ensures ∙ ends-compared (c .before .before .before .before .before .before .before .before .before .before .before .before .before .pre) (c .before .before .before .before .before .before .before .before .before .before .last-met .ensures) (c .before .before .before .before .before .before .before .before .before .first-unmet .ensures) (c .before .before .before .before .before .before .before .if1 .left) (c .before .before .before .before .move-of .ensures) (c .before .move-of2 .ensures)
+returns-2 c =
+    let at-move-of = c .before .before .before .before in
+    let at-if1 = at-move-of .before .before .before in
+    let at-first-unmet = at-if1 .before .before in
+    let at-last-met = at-first-unmet .before in
+    let start = at-last-met .before .before .before in
+    c .comes-before .ensures ∙ ends-compared (start .pre) (at-last-met .last-met .ensures)
+    (at-first-unmet .first-unmet .ensures) (at-if1 .if1 .left) (at-move-of .move-of .ensures) (c .before .move-of2 .ensures)
 
 pub ends-apart-spec : {M : Type 1} → statement M
 ends-apart-spec =

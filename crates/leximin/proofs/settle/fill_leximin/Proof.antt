@@ -15,7 +15,11 @@ sub-place-times : tie.Need-sub-place-times
 sub-place-times c = search needs
 
 place-times-requires : tie.Need-place-times-requires
-place-times-requires c κs = can-place (c .before .before .before .before .before .before .before .before .before .before .pre .0) (c .before .before .before .before .before .before .fill-start .ensures) (c .before .before .total-of .ensures) (c .before .if1 .taken)
+place-times-requires c κs =
+    let at-total-of = c .before .before in
+    let at-fill-start = at-total-of .before .before .before .before in
+    let start = at-fill-start .before .before .before .before in
+    can-place (start .pre .0) (at-fill-start .fill-start .ensures) (at-total-of .total-of .ensures) (c .before .if1 .taken)
 
 sub-result : tie.Need-sub-result
 sub-result c = search needs
@@ -24,16 +28,36 @@ same-length : tie.Need-same-length
 same-length c = search needs
 
 returns : tie.Need-returns
-returns c = placed-settled (c .before .before .before .before .before .before .before .before .before .before .before .before .before .pre .0) (c .before .before .before .before .before .before .before .before .before .fill-start .ensures) (c .before .before .before .before .before .total-of .ensures) (c .before .before .before .before .before .before .before .before .before .before .before .before .before .pre .1) (c .before .before .before .before .if1 .taken) (c .before .before .place-times .ensures)
+returns c =
+    let at-place-times = c .before .before in
+    let at-if1 = at-place-times .before .before in
+    let at-total-of = at-if1 .before in
+    let at-fill-start = at-total-of .before .before .before .before in
+    let start = at-fill-start .before .before .before .before in
+    placed-settled (start .pre .0) (at-fill-start .fill-start .ensures) (at-total-of .total-of .ensures) (start .pre .1)
+    (at-if1 .if1 .taken) (at-place-times .place-times .ensures)
 
 withdraw-times-requires : tie.Need-withdraw-times-requires
-withdraw-times-requires c κs = can-withdraw (c .before .before .before .before .before .before .before .before .before .before .pre .0) (c .before .before .before .before .before .before .fill-start .ensures) (c .before .before .total-of .ensures) (c .before .before .before .before .before .before .before .before .before .before .pre .1) (c .before .if1 .left)
+withdraw-times-requires c κs =
+    let at-total-of = c .before .before in
+    let at-fill-start = at-total-of .before .before .before .before in
+    let start = at-fill-start .before .before .before .before in
+    can-withdraw (start .pre .0) (at-fill-start .fill-start .ensures) (at-total-of .total-of .ensures) (start .pre .1)
+    (c .before .if1 .left)
 
 same-length-2 : tie.Need-same-length-2
 same-length-2 c = search needs
 
 returns-2 : tie.Need-returns-2
-returns-2 c = withdrawn-settled (c .before .before .before .before .before .before .before .before .before .before .before .before .before .pre .0) (c .before .before .before .before .before .before .before .before .before .fill-start .ensures) (c .before .before .before .before .before .total-of .ensures) (c .before .before .before .before .before .before .before .before .before .before .before .before .before .pre .1) (c .before .before .before .before .if1 .left) (c .before .before .withdraw-times .ensures)
+returns-2 c =
+    let at-withdraw-times = c .before .before in
+    let at-if1 = at-withdraw-times .before .before in
+    let at-total-of = at-if1 .before in
+    let at-fill-start = at-total-of .before .before .before .before in
+    let start = at-fill-start .before .before .before .before in
+    withdrawn-settled (start .pre .0) (at-fill-start .fill-start .ensures) (at-total-of .total-of .ensures) (start .pre .1)
+    (at-if1 .if1 .left)
+    (at-withdraw-times .withdraw-times .ensures)
 
 pub fill-leximin-spec : {M : Type 1} → statement M
 fill-leximin-spec =

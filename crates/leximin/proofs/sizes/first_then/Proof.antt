@@ -18,14 +18,23 @@ size-less-requires-2 c κs = search needs
 
 returns-2 : tie.Need-returns-2
 unfolding firstThen
-returns-2 c = simp (sym (c .before .before .before .size-less .ensures) ∙ c .before .before .if1 .left, sym (c .before .size-less2 .ensures) ∙ c .if2 .taken)
+returns-2 c =
+    simp (
+      sym (c .before .before .before .size-less .ensures) ∙ c .before .before .if1 .left,
+      sym (c .before .size-less2 .ensures) ∙ c .if2 .taken,
+    )
 
 size-less-requires-3 : tie.Need-size-less-requires-3
 size-less-requires-3 c κs = search needs
 
 returns-3 : tie.Need-returns-3
 unfolding firstThen
-returns-3 c = simp (sym (c .before .before .before .before .size-less .ensures) ∙ c .before .before .before .if1 .left, sym (c .before .before .size-less2 .ensures) ∙ c .before .if2 .left, c .size-less3 .ensures)
+returns-3 c =
+    simp (
+      sym (c .before .before .before .before .size-less .ensures) ∙ c .before .before .before .if1 .left,
+      sym (c .before .before .size-less2 .ensures) ∙ c .before .if2 .left,
+      c .size-less3 .ensures,
+    )
 
 pub first-then-spec : {M : Type 1} → statement M
 first-then-spec =

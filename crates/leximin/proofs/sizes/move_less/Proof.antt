@@ -17,18 +17,31 @@ first-then-requires c κs = search needs
 
 returns : tie.Need-returns
 unfolding lessMove
-returns c = simp (sym (c .before .before .before .before .size-less .ensures) ∙ c .before .before .before .if1 .taken, sym (c .before .before .size-less2 .ensures) ∙ c .before .if2 .taken, c .first-then .ensures)
+returns c =
+    simp (
+      sym (c .before .before .before .before .size-less .ensures) ∙ c .before .before .before .if1 .taken,
+      sym (c .before .before .size-less2 .ensures) ∙ c .before .if2 .taken,
+      c .first-then .ensures,
+    )
 
 returns-2 : tie.Need-returns-2
 unfolding lessMove
-returns-2 c = simp (sym (c .before .before .before .size-less .ensures) ∙ c .before .before .if1 .taken, sym (c .before .size-less2 .ensures) ∙ c .if2 .left)
+returns-2 c =
+    simp (
+      sym (c .before .before .before .size-less .ensures) ∙ c .before .before .if1 .taken,
+      sym (c .before .size-less2 .ensures) ∙ c .if2 .left,
+    )
 
 size-less-requires-3 : tie.Need-size-less-requires-3
 size-less-requires-3 c κs = search needs
 
 returns-3 : tie.Need-returns-3
 unfolding lessMove
-returns-3 c = simp (sym (c .before .before .before .size-less .ensures) ∙ c .before .before .if1 .left, sym (c .before .size-less3 .ensures) ∙ c .if3 .taken)
+returns-3 c =
+    simp (
+      sym (c .before .before .before .size-less .ensures) ∙ c .before .before .if1 .left,
+      sym (c .before .size-less3 .ensures) ∙ c .if3 .taken,
+    )
 
 size-less-requires-4 : tie.Need-size-less-requires-4
 size-less-requires-4 c κs = search needs
@@ -41,18 +54,55 @@ first-then-requires-2 c κs = search needs
 
 returns-4 : tie.Need-returns-4
 unfolding lessMove
-returns-4 c = simp (sym (c .before .before .before .before .before .before .before .before .size-less .ensures) ∙ c .before .before .before .before .before .before .before .if1 .left, sym (c .before .before .before .before .before .before .size-less3 .ensures) ∙ c .before .before .before .before .before .if3 .left, sym (c .before .before .before .before .size-less4 .ensures) ∙ c .before .before .before .if4 .taken, sym (c .before .before .size-less5 .ensures) ∙ c .before .if5 .taken, c .first-then2 .ensures)
+returns-4 c =
+    let at-size-less5 = c .before .before in
+    let at-if4 = at-size-less5 .before in
+    let at-size-less4 = at-if4 .before in
+    let at-if3 = at-size-less4 .before in
+    let at-size-less3 = at-if3 .before in
+    let at-if1 = at-size-less3 .before in
+    let at-size-less = at-if1 .before in
+    simp (
+      sym (at-size-less .size-less .ensures) ∙ at-if1 .if1 .left,
+      sym (at-size-less3 .size-less3 .ensures) ∙ at-if3 .if3 .left,
+      sym (at-size-less4 .size-less4 .ensures) ∙ at-if4 .if4 .taken,
+      sym (at-size-less5 .size-less5 .ensures) ∙ c .before .if5 .taken,
+      c .first-then2 .ensures,
+    )
 
 returns-5 : tie.Need-returns-5
 unfolding lessMove
-returns-5 c = simp (sym (c .before .before .before .before .before .before .before .size-less .ensures) ∙ c .before .before .before .before .before .before .if1 .left, sym (c .before .before .before .before .before .size-less3 .ensures) ∙ c .before .before .before .before .if3 .left, sym (c .before .before .before .size-less4 .ensures) ∙ c .before .before .if4 .taken, sym (c .before .size-less5 .ensures) ∙ c .if5 .left)
+returns-5 c =
+    let at-if4 = c .before .before in
+    let at-size-less4 = at-if4 .before in
+    let at-if3 = at-size-less4 .before in
+    let at-size-less3 = at-if3 .before in
+    let at-if1 = at-size-less3 .before in
+    let at-size-less = at-if1 .before in
+    simp (
+      sym (at-size-less .size-less .ensures) ∙ at-if1 .if1 .left,
+      sym (at-size-less3 .size-less3 .ensures) ∙ at-if3 .if3 .left,
+      sym (at-size-less4 .size-less4 .ensures) ∙ at-if4 .if4 .taken,
+      sym (c .before .size-less5 .ensures) ∙ c .if5 .left,
+    )
 
 size-less-requires-6 : tie.Need-size-less-requires-6
 size-less-requires-6 c κs = search needs
 
 returns-6 : tie.Need-returns-6
 unfolding lessMove
-returns-6 c = simp (sym (c .before .before .before .before .before .before .size-less .ensures) ∙ c .before .before .before .before .before .if1 .left, sym (c .before .before .before .before .size-less3 .ensures) ∙ c .before .before .before .if3 .left, sym (c .before .before .size-less4 .ensures) ∙ c .before .if4 .left, c .size-less6 .ensures)
+returns-6 c =
+    let at-size-less4 = c .before .before in
+    let at-if3 = at-size-less4 .before in
+    let at-size-less3 = at-if3 .before in
+    let at-if1 = at-size-less3 .before in
+    let at-size-less = at-if1 .before in
+    simp (
+      sym (at-size-less .size-less .ensures) ∙ at-if1 .if1 .left,
+      sym (at-size-less3 .size-less3 .ensures) ∙ at-if3 .if3 .left,
+      sym (at-size-less4 .size-less4 .ensures) ∙ c .before .if4 .left,
+      c .size-less6 .ensures,
+    )
 
 pub move-less-spec : {M : Type 1} → statement M
 move-less-spec =

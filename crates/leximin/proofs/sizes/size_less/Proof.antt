@@ -9,10 +9,15 @@ use Rattle.leximin.proofs.sizes.size_less.Statement.{statement}
 use Rattle.leximin.proofs.sizes.size_less.Tie as tie
 
 mul-result : tie.Need-mul-result
-mul-result c = product-fits (sumLimit * (houseLimit + 1)) (houseLimit + 1) (c .before .before .pre .0 .over) (c .before .before .pre .1 .under) tt
+mul-result c =
+    product-fits (sumLimit * (houseLimit + 1)) (houseLimit + 1) (c .before .before .pre .0 .over)
+    (c .before .before .pre .1 .under) tt
 
 mul-result-2 : tie.Need-mul-result-2
-mul-result-2 c = product-fits (sumLimit * (houseLimit + 1)) (houseLimit + 1) (c .before .before .before .before .pre .1 .over) (c .before .before .before .before .pre .0 .under) tt
+mul-result-2 c =
+    product-fits (sumLimit * (houseLimit + 1)) (houseLimit + 1)
+    (c .before .before .before .before .pre .1 .over)
+    (c .before .before .before .before .pre .0 .under) tt
 
 returns : tie.Need-returns
 unfolding lessSize

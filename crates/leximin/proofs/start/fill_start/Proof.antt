@@ -13,7 +13,9 @@ use Rattle.leximin.proofs.start.fill_start.Statement.{statement}
 use Rattle.leximin.proofs.start.fill_start.Tie as tie
 
 abbrev Inv-loop : tie.InvT-loop
-Inv-loop populations total house seats₀ i₀ seats i = (i ≤ length populations) × (length seats ≡ length populations) × ((k : ℕ) → k < i → getD seats k 0 ≡ nearestRounded (getD populations k 0) total house)
+Inv-loop populations total house seats₀ i₀ seats i =
+    (i ≤ length populations) × (length seats ≡ length populations) ×
+    ((k : ℕ) → k < i → getD seats k 0 ≡ nearestRounded (getD populations k 0) total house)
 
 abbrev μ-loop : tie.MeasureT-loop
 μ-loop populations total house seats₀ i₀ seats i = length populations - i
@@ -28,7 +30,10 @@ shared-slice-read-nearest-seats : tie.Need-shared-slice-read-nearest-seats Inv-l
 shared-slice-read-nearest-seats c = search needs
 
 nearest-seats-requires : tie.Need-nearest-seats-requires Inv-loop μ-loop
-nearest-seats-requires c κs = counted (ready-counts (c .before .before .before .before .before .pre .0)) (c .before .before .loop .i)
+nearest-seats-requires c κs =
+    let at-loop = c .before .before in
+    let start = at-loop .before .before .before in
+    counted (ready-counts (start .pre .0)) (at-loop .loop .i)
 
 mul-seats : tie.Need-mul-seats Inv-loop μ-loop
 mul-seats c = search needs
@@ -43,13 +48,26 @@ loop-less : tie.Need-loop-less Inv-loop μ-loop
 loop-less c = search needs
 
 loop-again : tie.Need-loop-again Inv-loop μ-loop
-loop-again c = (omega (arith, c .before .before .loop-test .taken), simp length-set (c .before .before .before .loop .inv .1), filled-next (λ (k : ℕ). nearestRounded (getD (c .before .before .before .before .before .before .args .populations .now) k 0) (c .before .before .before .before .before .before .args .total) (c .before .before .before .before .before .before .args .house)) (c .before .before .before .loop .seats) (c .before .before .before .loop .i) (c .nearest-seats .result) (omega (arith, c .before .before .loop-test .taken, c .before .before .before .loop .inv .1)) (c .nearest-seats .ensures) (c .before .before .before .loop .inv .2))
+loop-again c =
+    let at-test = c .before .before in
+    let at-loop = at-test .before in
+    let start = at-loop .before .before .before in (
+      omega (arith, at-test .loop-test .taken),
+      simp length-set (at-loop .loop .inv .1),
+      filled-next
+          (λ (k : ℕ). nearestRounded (getD (start .args .populations .now) k 0) (start .args .total) (start .args .house))
+          (at-loop .loop .seats) (at-loop .loop .i) (c .nearest-seats .result)
+          (omega (arith, at-test .loop-test .taken, at-loop .loop .inv .1)) (c .nearest-seats .ensures) (at-loop .loop .inv .2),
+    )
 
 same-length : tie.Need-same-length Inv-loop μ-loop
 same-length c = search needs
 
 returns : tie.Need-returns Inv-loop μ-loop
-returns c = start-at-every-place (c .before .before .before .before .pre .0) _ (c .before .loop .inv .1) (λ k h. c .before .loop .inv .2 k (omega (arith, h, c .loop-test .left)))
+returns c =
+    start-at-every-place
+    (c .before .before .before .before .pre .0) _ (c .before .loop .inv .1)
+    (λ k h. c .before .loop .inv .2 k (omega (arith, h, c .loop-test .left)))
 
 pub fill-start-spec : {M : Type 1} → statement M
 fill-start-spec =

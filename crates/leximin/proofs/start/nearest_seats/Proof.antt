@@ -29,21 +29,49 @@ size-of-requires : tie.Need-size-of-requires
 size-of-requires c κs = measured (c .before .pre) (omega (arith, whole-at-most-house (c .before .pre), c .before .pre .houseFits))
 
 size-of-requires-2 : tie.Need-size-of-requires-2
-size-of-requires-2 c κs = measured (c .before .before .pre) (omega (arith, whole-at-most-house (c .before .before .pre), c .before .before .pre .houseFits))
+size-of-requires-2 c κs =
+    measured (c .before .before .pre)
+    (omega (arith, whole-at-most-house (c .before .before .pre), c .before .before .pre .houseFits))
 
 size-less-requires : tie.Need-size-less-requires
 size-less-requires c κs = (c .before .size-of .ensures .small, c .size-of2 .ensures .small)
 
 add-result : tie.Need-add-result
-add-result c = omega (arith, whole-at-most-house (c .before .before .before .before .before .pre), c .before .before .before .before .before .pre .houseFits)
+add-result c =
+    let start = c .before .before .before .before .before in
+    omega (arith, whole-at-most-house (start .pre), start .pre .houseFits)
 
 returns-2 : tie.Need-returns-2
 unfolding nearestRounded
-returns-2 c = simp (ne-eqb _ _ (c .before .before .before .before .if1 .left), ← size-order-kept, c .before .before .before .before .before .pre .peopled, ← c .before .before .before .size-of .ensures .is, ← c .before .before .size-of2 .ensures .is, sym (c .before .size-less .ensures) ∙ c .if2 .taken)
+returns-2 c =
+    let at-size-of2 = c .before .before in
+    let at-size-of = at-size-of2 .before in
+    let at-if1 = at-size-of .before in
+    let start = at-if1 .before in
+    simp (
+      ne-eqb _ _ (at-if1 .if1 .left),
+      ← size-order-kept,
+      start .pre .peopled,
+      ← at-size-of .size-of .ensures .is,
+      ← at-size-of2 .size-of2 .ensures .is,
+      sym (c .before .size-less .ensures) ∙ c .if2 .taken,
+    )
 
 returns-3 : tie.Need-returns-3
 unfolding nearestRounded
-returns-3 c = simp (ne-eqb _ _ (c .before .before .before .before .if1 .left), ← size-order-kept, c .before .before .before .before .before .pre .peopled, ← c .before .before .before .size-of .ensures .is, ← c .before .before .size-of2 .ensures .is, sym (c .before .size-less .ensures) ∙ c .if2 .left)
+returns-3 c =
+    let at-size-of2 = c .before .before in
+    let at-size-of = at-size-of2 .before in
+    let at-if1 = at-size-of .before in
+    let start = at-if1 .before in
+    simp (
+      ne-eqb _ _ (at-if1 .if1 .left),
+      ← size-order-kept,
+      start .pre .peopled,
+      ← at-size-of .size-of .ensures .is,
+      ← at-size-of2 .size-of2 .ensures .is,
+      sym (c .before .size-less .ensures) ∙ c .if2 .left,
+    )
 
 pub nearest-seats-spec : {M : Type 1} → statement M
 nearest-seats-spec =

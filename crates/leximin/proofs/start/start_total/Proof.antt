@@ -14,7 +14,8 @@ use Rattle.leximin.proofs.start.start_total.Statement.{statement}
 use Rattle.leximin.proofs.start.start_total.Tie as tie
 
 abbrev Inv-loop : tie.InvT-loop
-Inv-loop populations total house sum₀ i₀ sum i = (i ≤ length populations) × (sum + Lists.sum (drop i (startSeats populations house)) ≡ startTotal populations house)
+Inv-loop populations total house sum₀ i₀ sum i =
+    (i ≤ length populations) × (sum + Lists.sum (drop i (startSeats populations house)) ≡ startTotal populations house)
 
 abbrev μ-loop : tie.MeasureT-loop
 μ-loop populations total house sum₀ i₀ sum i = length populations - i
@@ -33,7 +34,16 @@ nearest-seats-requires : tie.Need-nearest-seats-requires Inv-loop μ-loop
 nearest-seats-requires c κs = counted (ready-counts (c .before .before .before .before .pre)) (c .before .before .loop .i)
 
 add-sum : tie.Need-add-sum Inv-loop μ-loop
-add-sum c = omega (arith, start-sum-next (c .before .before .before .before .before .pre) (c .before .before .before .loop .i) (c .before .before .loop-test .taken) (c .nearest-seats .ensures), c .before .before .before .loop .inv .1, start-total-fits (c .before .before .before .before .before .pre))
+add-sum c =
+    let at-test = c .before .before in
+    let at-loop = at-test .before in
+    let start = at-loop .before .before in
+    omega (
+      arith,
+      start-sum-next (start .pre) (at-loop .loop .i) (at-test .loop-test .taken) (c .nearest-seats .ensures),
+      at-loop .loop .inv .1,
+      start-total-fits (start .pre),
+    )
 
 add-i : tie.Need-add-i Inv-loop μ-loop
 add-i c = search needs
@@ -42,10 +52,25 @@ loop-less : tie.Need-loop-less Inv-loop μ-loop
 loop-less c = search needs
 
 loop-again : tie.Need-loop-again Inv-loop μ-loop
-loop-again c = (omega (arith, c .before .before .loop-test .taken), omega (arith, start-sum-next (c .before .before .before .before .before .pre) (c .before .before .before .loop .i) (c .before .before .loop-test .taken) (c .nearest-seats .ensures), c .before .before .before .loop .inv .1))
+loop-again c =
+    let at-test = c .before .before in
+    let at-loop = at-test .before in
+    let start = at-loop .before .before in (
+      omega (arith, at-test .loop-test .taken),
+      omega (
+        arith,
+        start-sum-next (start .pre) (at-loop .loop .i) (at-test .loop-test .taken) (c .nearest-seats .ensures),
+        at-loop .loop .inv .1,
+      ),
+    )
 
 returns : tie.Need-returns Inv-loop μ-loop
-returns c = omega (arith, c .before .loop .inv .1, start-sum-end (c .before .before .before .pre) (c .before .loop .i) (c .loop-test .left))
+returns c =
+    omega (
+      arith,
+      c .before .loop .inv .1,
+      start-sum-end (c .before .before .before .pre) (c .before .loop .i) (c .loop-test .left),
+    )
 
 pub start-total-spec : {M : Type 1} → statement M
 start-total-spec =

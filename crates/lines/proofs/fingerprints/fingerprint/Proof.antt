@@ -41,7 +41,8 @@ loop-again c = (
   omega arith,
   omega arith,
   c .before .before .loop .inv .2
-      ∙ fingerprint-step (c .before .before .loop .h) (c .before .before .before .args .name .now) (c .before .before .loop .i) (omega arith),
+      ∙ fingerprint-step (c .before .before .loop .h) (c .before .before .before .args .name .now)
+      (c .before .before .loop .i) (omega arith),
 )
 
 cast-result : tie.Need-cast-result Inv-loop μ-loop
@@ -50,7 +51,9 @@ cast-result c = search needs
 returns : tie.Need-returns Inv-loop μ-loop
 unfolding fingerprintOf
 returns c =
-    sym (c .before .loop .inv .2 ∙ fingerprint-end (c .before .loop .h) (c .before .before .args .name .now) (c .before .loop .i) (omega arith))
+    sym
+    (c .before .loop .inv .2 ∙ fingerprint-end (c .before .loop .h) (c .before .before .args .name .now)
+    (c .before .loop .i) (omega arith))
 
 pub fingerprint-spec : {M : Type 1} → statement M
 fingerprint-spec =

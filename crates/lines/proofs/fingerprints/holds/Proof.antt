@@ -35,12 +35,15 @@ loop-again : tie.Need-loop-again Inv-loop μ-loop
 loop-again c = (
   omega arith,
   c .before .before .loop .inv .1
-      ∙ holds-step (c .before .before .loop .found) (c .before .before .before .args .print) (c .before .before .before .args .prints .now) (c .before .before .loop .i) (omega arith),
+      ∙ holds-step (c .before .before .loop .found) (c .before .before .before .args .print)
+      (c .before .before .before .args .prints .now) (c .before .before .loop .i) (omega arith),
 )
 
 returns : tie.Need-returns Inv-loop μ-loop
 returns c =
-    sym (c .before .loop .inv .1 ∙ holds-end (c .before .loop .found) (c .before .before .args .print) (c .before .before .args .prints .now) (c .before .loop .i) (omega arith))
+    sym
+    (c .before .loop .inv .1 ∙ holds-end (c .before .loop .found) (c .before .before .args .print)
+    (c .before .before .args .prints .now) (c .before .loop .i) (omega arith))
 
 pub holds-spec : {M : Type 1} → statement M
 holds-spec =

@@ -9,7 +9,9 @@ use Rattle.lines.proofs.head.is_head.Tie as tie
 
 returns : tie.Need-returns
 unfolding headFormed
-returns c = simp (failed {r = c .before .before .before .before .before .args .ended} refl (c .if1 .taken))
+returns c =
+    let start = c .before .before .before .before .before in
+    simp (failed {r = start .args .ended} refl (c .if1 .taken))
 
 slice-aggregate-same : tie.Need-slice-aggregate-same
 slice-aggregate-same c = search needs
@@ -21,7 +23,8 @@ returns-2 : tie.Need-returns-2
 unfolding headFormed
 returns-2 c =
     simp (
-      passed {r = c .before .before .before .before .before .before .before .before .args .ended} refl (c .before .before .before .if1 .left),
+      passed {r = c .before .before .before .before .before .before .before .before .args .ended} refl
+          (c .before .before .before .if1 .left),
       failed (c .before .same .ensures) (c .if2 .taken),
     )
 
@@ -32,7 +35,8 @@ returns-3 : tie.Need-returns-3
 unfolding headFormed
 returns-3 c =
     simp (
-      passed {r = c .before .before .before .before .before .before .before .before .before .before .args .ended} refl (c .before .before .before .before .before .if1 .left),
+      passed {r = c .before .before .before .before .before .before .before .before .before .before .args .ended} refl
+          (c .before .before .before .before .before .if1 .left),
       passed (c .before .before .before .same .ensures) (c .before .before .if2 .left),
       failed (c .before .is-method-field .ensures) (c .if3 .taken),
     )
@@ -44,7 +48,10 @@ returns-4 : tie.Need-returns-4
 unfolding headFormed
 returns-4 c =
     simp (
-      passed {r = c .before .before .before .before .before .before .before .before .before .before .before .before .args .ended} refl (c .before .before .before .before .before .before .before .if1 .left),
+      passed
+          {r = c .before .before .before .before .before .before .before .before .before .before .before .before .args .ended}
+          refl
+          (c .before .before .before .before .before .before .before .if1 .left),
       passed (c .before .before .before .before .before .same .ensures) (c .before .before .before .before .if2 .left),
       passed (c .before .before .before .is-method-field .ensures) (c .before .before .if3 .left),
       failed (c .before .is-number .ensures) (c .if4 .taken),
@@ -57,8 +64,13 @@ returns-5 : tie.Need-returns-5
 unfolding headFormed
 returns-5 c =
     simp (
-      passed {r = c .before .before .before .before .before .before .before .before .before .before .before .before .before .args .ended} refl (c .before .before .before .before .before .before .before .before .if1 .left),
-      passed (c .before .before .before .before .before .before .same .ensures) (c .before .before .before .before .before .if2 .left),
+      passed
+          {r = c .before .before .before .before .before .before .before .before .before .before .before .before .before .args .ended}
+          refl
+          (c .before .before .before .before .before .before .before .before .if1 .left),
+      passed
+          (c .before .before .before .before .before .before .same .ensures)
+          (c .before .before .before .before .before .if2 .left),
       passed (c .before .before .before .before .is-method-field .ensures) (c .before .before .before .if3 .left),
       passed (c .before .before .is-number .ensures) (c .before .if4 .left),
       c .is-number2 .ensures,

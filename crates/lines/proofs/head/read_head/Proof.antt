@@ -27,18 +27,33 @@ house-is : (c : tie.After-fields-from3) → c .before .field-to3 .result .now �
 unfolding houseField
 house-is c =
     c .before .field-to3 .ensures
-    ∙ rw (c .before .before .before .fields-from2 .ensures, c .before .before .before .before .before .before .fields-from .ensures, c .before .before .before .before .before .before .before .before .before .line-to .ensures)
+    ∙ rw (
+      c .before .before .before .fields-from2 .ensures,
+      c .before .before .before .before .before .before .fields-from .ensures,
+      c .before .before .before .before .before .before .before .before .before .line-to .ensures,
+    )
 
 count-is : (c : tie.After-fields-from3) → c .fields-from3 .result .now ≡ countField (c .before .before .before .before .before .before .before .before .before .before .before .before .args .s .now)
 unfolding countField
 count-is c =
     c .fields-from3 .ensures
-    ∙ rw (c .before .before .before .fields-from2 .ensures, c .before .before .before .before .before .before .fields-from .ensures, c .before .before .before .before .before .before .before .before .before .line-to .ensures)
+    ∙ rw (
+      c .before .before .before .fields-from2 .ensures,
+      c .before .before .before .before .before .before .fields-from .ensures,
+      c .before .before .before .before .before .before .before .before .before .line-to .ensures,
+    )
 
 formed : (c : tie.After-is-head) → c .is-head .result ≡ isHead (c .before .before .before .before .before .before .before .before .before .before .before .before .before .before .args .s .now)
 formed c =
     c .is-head .ensures
-    ∙ (rw (c .before .is-ended .ensures, word-is (c .before .before), method-is (c .before .before), house-is (c .before .before), count-is (c .before .before)))
+    ∙
+    (rw (
+      c .before .is-ended .ensures,
+      word-is (c .before .before),
+      method-is (c .before .before),
+      house-is (c .before .before),
+      count-is (c .before .before),
+    ))
     ∙ head-formed _
 
 line-end-requires : tie.Need-line-end-requires
@@ -92,11 +107,15 @@ method-named-requires c κs = search needs
 
 value-requires : tie.Need-value-requires
 value-requires c κs =
-    rw (house-is (c .before .before .before .before)) (head-numbers _ (passed (formed (c .before .before)) (c .before .if1 .left)) .0)
+    rw
+    (house-is (c .before .before .before .before))
+    (head-numbers _ (passed (formed (c .before .before)) (c .before .if1 .left)) .0)
 
 value-requires-2 : tie.Need-value-requires-2
 value-requires-2 c κs =
-    rw (count-is (c .before .before .before .before .before)) (head-numbers _ (passed (formed (c .before .before .before)) (c .before .before .if1 .left)) .1)
+    rw
+    (count-is (c .before .before .before .before .before))
+    (head-numbers _ (passed (formed (c .before .before .before)) (c .before .before .if1 .left)) .1)
 
 says-requires : tie.Need-says-requires
 says-requires c κs = search needs

@@ -29,7 +29,10 @@ refused-requires-2 c κs = search needs
 returns-2 : tie.Need-returns-2
 unfolding headSays
 returns-2 c =
-    c .refused2 .ensures ∙ simp (c .before .before .before .before .named .given .1, failed (c .before .before .within .ensures) (c .before .if1 .taken))
+    c .refused2 .ensures ∙ simp (
+      c .before .before .before .before .named .given .1,
+      failed (c .before .before .within .ensures) (c .before .if1 .taken),
+    )
 
 within-requires-2 : tie.Need-within-requires-2
 within-requires-2 c κs = search needs

@@ -21,12 +21,20 @@ formed : (c : tie.After-is-pair) → c .is-pair .result ≡ isClosingLine (c .be
 unfolding isClosingLine
 formed c =
     c .is-pair .ensures
-    ∙ (rw (c .before .before .before .is-ended .ensures, c .before .same .ensures, word-is (c .before .before .before .before), digits-are (c .before .before .before .before)))
+    ∙
+    (rw (
+      c .before .before .before .is-ended .ensures,
+      c .before .same .ensures,
+      word-is (c .before .before .before .before),
+      digits-are (c .before .before .before .before),
+    ))
     ∙ pair-formed _ _
 
 total-is : (c : tie.After-value) → c .value .result ≡ numberAt (c .before .before .before .before .before .before .before .before .before .before .before .before .args .s .now)
 unfolding numberAt
-total-is c = c .value .ensures ∙ rw (digits-are (c .before .before .before .before .before .before))
+total-is c =
+    let start = c .before .before .before .before .before .before in
+    c .value .ensures ∙ rw (digits-are start)
 
 line-end-requires : tie.Need-line-end-requires
 line-end-requires c κs = search needs

@@ -12,7 +12,14 @@ holds-requires c κs = search needs
 
 returns : tie.Need-returns
 returns c =
-    sym (unused-without-fingerprint (c .before .before .before .before .before .args .k) (c .before .before .before .before .before .args .s .now) (c .before .before .before .before .before .args .name .now) (rw (c .before .before .before .before .before .pre .1, c .before .before .before .before .before .pre .0) at (failed (c .before .holds .ensures) (c .if1 .taken))))
+    sym
+    (unused-without-fingerprint
+    (c .before .before .before .before .before .args .k)
+    (c .before .before .before .before .before .args .s .now)
+    (c .before .before .before .before .before .args .name .now)
+    (rw
+    (c .before .before .before .before .before .pre .1, c .before .before .before .before .before .pre .0) at
+    (failed (c .before .holds .ensures) (c .if1 .taken))))
 
 used-in-requires : tie.Need-used-in-requires
 used-in-requires c κs = search needs

@@ -20,7 +20,13 @@ formed : (c : tie.After-is-pair) → c .is-pair .result ≡ isStateLine (c .befo
 unfolding isStateLine
 formed c =
     c .is-pair .ensures
-    ∙ (rw (c .before .before .is-ended .ensures, c .before .is-name .ensures, name-is (c .before .before .before), digits-are (c .before .before .before)))
+    ∙
+    (rw (
+      c .before .before .is-ended .ensures,
+      c .before .is-name .ensures,
+      name-is (c .before .before .before),
+      digits-are (c .before .before .before),
+    ))
     ∙ pair-formed _ _
 
 population-is : (c : tie.After-value) → c .value .result ≡ numberAt (c .before .before .before .before .before .before .before .before .before .before .before .before .before .args .s .now)
@@ -29,7 +35,9 @@ population-is c = c .value .ensures ∙ rw (digits-are (c .before .before .befor
 
 refusal-is :
     (c : tie.After-entry-refusal)
-    → let a = c .before .before .before .before .before .before .before .before .before .before .before .before .before .before .before .args in c .entry-refusal .result ≡ entryRefusal (a .first .now) (a .k) (a .sum) (nameAt (a .s .now)) (numberAt (a .s .now))
+    → let a =
+    c .before .before .before .before .before .before .before .before .before .before .before .before .before .before .before .args
+    in c .entry-refusal .result ≡ entryRefusal (a .first .now) (a .k) (a .sum) (nameAt (a .s .now)) (numberAt (a .s .now))
 refusal-is c =
     c .entry-refusal .ensures
     ∙ rw (name-is (c .before .before .before .before .before .before .before), population-is (c .before .before))
@@ -83,7 +91,10 @@ returns-2 c =
     c .refused2 .ensures
     ∙ rw (refusal-is (c .before .before))
     (sym
-    (line-refused _ _ _ _ (passed (formed (c .before .before .before .before .before .before)) (c .before .before .before .before .before .if1 .left))
+    (line-refused _ _ _ _
+    (passed
+    (formed (c .before .before .before .before .before .before))
+    (c .before .before .before .before .before .if1 .left))
     (λ good. c .before .if2 .taken (refusal-is (c .before .before) ∙ good))))
 
 returns-3 : tie.Need-returns-3
@@ -96,7 +107,8 @@ returns-3 c =
       c .before .before .before .before .before .before .before .before .before .before .before .before .line-end .ensures,
     )
     (sym
-    (line-accepted _ _ _ _ (passed (formed (c .before .before .before .before .before)) (c .before .before .before .before .if1 .left))
+    (line-accepted _ _ _ _
+    (passed (formed (c .before .before .before .before .before)) (c .before .before .before .before .if1 .left))
     (sym (refusal-is (c .before)) ∙ c .if2 .left)))
 
 pub read-state-spec : {M : Type 1} → statement M

@@ -26,7 +26,8 @@ returns : tie.Need-returns Inv-loop μ-loop
 returns c =
     sym
     (c .before .before .before .before .loop .inv
-    ∙ used-found _ _ _ (omega arith) (rw (c .before .before .name-at .ensures) at (sym (c .before .same .ensures) ∙ c .if1 .taken)))
+    ∙ used-found _ _ _ (omega arith)
+    (rw (c .before .before .name-at .ensures) at (sym (c .before .same .ensures) ∙ c .if1 .taken)))
 
 rest-requires : tie.Need-rest-requires Inv-loop μ-loop
 rest-requires c κs = search needs
@@ -40,7 +41,8 @@ loop-less c = search needs
 loop-again : tie.Need-loop-again Inv-loop μ-loop
 loop-again c =
     c .before .before .before .before .before .loop .inv
-    ∙ used-passed _ _ _ (omega arith) (rw (c .before .before .before .name-at .ensures) at (sym (c .before .before .same .ensures) ∙ c .before .if1 .left))
+    ∙ used-passed _ _ _ (omega arith)
+    (rw (c .before .before .before .name-at .ensures) at (sym (c .before .before .same .ensures) ∙ c .before .if1 .left))
     ∙ rw (c .rest .ensures)
 
 returns-2 : tie.Need-returns-2 Inv-loop μ-loop

@@ -1,3 +1,5 @@
+-- `listing::rows::put_departure` meets its contract: without seats it is `none` twice, and otherwise the exact departure, shown and marked.
+-- Assumes nothing.
 use native.Mathlib.Nat.{pos-of-ne-zero}
 use borrow.Author.Tests.{eq-eqb, ne-eqb}
 use Rattle.departure.specs.Answer.{moderate-size}
@@ -8,65 +10,64 @@ use Rattle.listing.specs.Listing.{departureText}
 use borrow.Author.Needs.{needs}
 use Rattle.listing.proofs.rows.put_departure.Statement.{statement}
 use Rattle.listing.proofs.rows.put_departure.Tie as tie
-use Rattle.listing.proofs.rows.put_departure.Reads as reads
-use Rattle.listing.proofs.rows.put_departure.Lts as lts
-use Rattle.departure.proofs.Departure.hundredths.Reads as hundredths-reads
-use Rattle.departure.proofs.Departure.mark.Reads as mark-reads
-use Rattle.departure.proofs.Departure.of.Reads as of-reads
-use Rattle.text.proofs.put_byte.Reads as put-byte-reads
-use Rattle.text.proofs.put_bytes.Reads as put-bytes-reads
-use Rattle.text.proofs.put_mark.Reads as put-mark-reads
-use Rattle.text.proofs.put_shown.Reads as put-shown-reads
 
--- src/rows.rt:41:41
 slice-aggregate-put-bytes : tie.Need-slice-aggregate-put-bytes
 slice-aggregate-put-bytes c = search needs
 
--- src/rows.rt:41:9
 put-bytes-requires : tie.Need-put-bytes-requires
 put-bytes-requires c κs = search needs
 
--- src/rows.rt:41:9
 same-length : tie.Need-same-length
 same-length c = search needs
 
--- src/rows.rt:41:9
 returns : tie.Need-returns
 unfolding departureText
-returns c = rw (eq-eqb _ _ (c .before .before .before .before .before .if1 .taken)) (c .before .before .put-bytes .ensures)
+returns c =
+    let at-put-bytes = c .before .before in
+    let at-if1 = at-put-bytes .before .before .before in
+    rw (eq-eqb _ _ (at-if1 .if1 .taken)) (at-put-bytes .put-bytes .ensures)
 
--- src/rows.rt:43:9
 of-requires : tie.Need-of-requires
 of-requires c κs = search needs
 
--- src/rows.rt:44:42
 hundredths-requires : tie.Need-hundredths-requires
-hundredths-requires c κs = rw (c .before .of .ensures, exact-size) (moderate-size (c .before .before .before .before .pre) (pos-of-ne-zero (c .before .before .if1 .left)))
+hundredths-requires c κs =
+    rw (c .before .of .ensures, exact-size)
+    (moderate-size (c .before .before .before .before .pre) (pos-of-ne-zero (c .before .before .if1 .left)))
 
--- src/rows.rt:44:9
 put-shown-requires : tie.Need-put-shown-requires
 put-shown-requires c κs = search needs
 
--- src/rows.rt:45:9
 put-byte-requires : tie.Need-put-byte-requires
 put-byte-requires c κs = search needs
 
--- src/rows.rt:46:32
 mark-requires : tie.Need-mark-requires
 mark-requires c κs = search needs
 
--- src/rows.rt:46:5
 put-mark-requires : tie.Need-put-mark-requires
 put-mark-requires c κs = search needs
 
--- src/rows.rt:36:1
 same-length-2 : tie.Need-same-length-2
 same-length-2 c = search needs
 
--- src/rows.rt:36:1
 returns-2 : tie.Need-returns-2
 unfolding departureText
-returns-2 c = let shown = rw (read-back (c .before .before .before .before .before .before .before .before .before .before .before .before .hundredths .result) (c .before .before .before .before .before .before .before .before .before .before .before .before .hundredths .ok), c .before .before .before .before .before .before .before .before .before .before .before .before .hundredths .ensures, c .before .before .before .before .before .before .before .before .before .before .before .before .before .before .of .ensures, exact-shown) at (c .before .before .before .before .before .before .before .before .before .before .before .put-shown .ensures) in let mark = rw (c .before .before .before .mark .ensures, c .before .before .before .before .before .before .before .before .before .before .before .before .before .before .of .ensures, exact-size) at (c .before .before .put-mark .ensures) in rw (ne-eqb _ _ (c .before .before .before .before .before .before .before .before .before .before .before .before .before .before .before .if1 .left)) (wrote-then (wrote-then shown (c .before .before .before .before .before .before .before .put-byte .ensures)) mark)
+returns-2 c =
+    let at-put-mark = c .before .before in
+    let at-mark = at-put-mark .before in
+    let at-put-byte = at-mark .before .before .before .before in
+    let at-put-shown = at-put-byte .before .before .before .before in
+    let at-hundredths = at-put-shown .before in
+    let at-of = at-hundredths .before .before in
+    let at-if1 = at-of .before in
+    let shown = rw (
+      read-back (at-hundredths .hundredths .result) (at-hundredths .hundredths .ok),
+      at-hundredths .hundredths .ensures,
+      at-of .of .ensures,
+      exact-shown,
+    ) at (at-put-shown .put-shown .ensures) in
+    let mark = rw (at-mark .mark .ensures, at-of .of .ensures, exact-size) at (at-put-mark .put-mark .ensures) in
+    rw (ne-eqb _ _ (at-if1 .if1 .left)) (wrote-then (wrote-then shown (at-put-byte .put-byte .ensures)) mark)
 
 pub put-departure-spec : {M : Type 1} → statement M
 put-departure-spec =

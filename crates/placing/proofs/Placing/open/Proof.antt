@@ -19,20 +19,32 @@ handed-back-requires c κs = search needs
 
 returns : tie.Need-returns
 unfolding openedOf refusedWith
-returns c = rw (ne-eqb _ _ (λ e. c .before .before .if1 .taken (c .before .before .before .open-refusal .ensures ∙ e)), ← c .before .before .before .open-refusal .ensures, ← c .before .empty-placing .ensures) (c .handed-back .ensures)
+returns c =
+    rw (
+      ne-eqb _ _ (λ e. c .before .before .if1 .taken (c .before .before .before .open-refusal .ensures ∙ e)),
+      ← c .before .before .before .open-refusal .ensures,
+      ← c .before .empty-placing .ensures,
+    )
+    (c .handed-back .ensures)
 
 total-of-requires : tie.Need-total-of-requires
 total-of-requires c κs = search needs
 
 started-placing-requires : tie.Need-started-placing-requires
-started-placing-requires c κs = opened-parts (sym (c .before .before .open-refusal .ensures) ∙ c .before .if1 .left) (c .total-of .ensures)
+started-placing-requires c κs =
+    opened-parts (sym (c .before .before .open-refusal .ensures) ∙ c .before .if1 .left) (c .total-of .ensures)
 
 handed-back-requires-2 : tie.Need-handed-back-requires-2
 handed-back-requires-2 c κs = search needs
 
 returns-2 : tie.Need-returns-2
 unfolding openedOf refusedWith
-returns-2 c = rw (eq-eqb _ _ (sym (c .before .before .before .before .open-refusal .ensures) ∙ c .before .before .before .if1 .left), ← c .before .started-placing .ensures) (c .handed-back2 .ensures)
+returns-2 c =
+    rw (
+      eq-eqb _ _ (sym (c .before .before .before .before .open-refusal .ensures) ∙ c .before .before .before .if1 .left),
+      ← c .before .started-placing .ensures,
+    )
+    (c .handed-back2 .ensures)
 
 pub open-spec : {M : Type 1} → statement M
 open-spec =

@@ -16,17 +16,32 @@ handed-back-requires c κs = search needs
 
 returns : tie.Need-returns
 unfolding steppedOf
-returns c = rw (sym (c .before .before .before .before .is-genuine .ensures) ∙ c .before .before .before .if1 .taken, eq-eqb _ _ (c .before .if2 .taken)) (c .handed-back .ensures)
+returns c =
+    rw (
+      sym (c .before .before .before .before .is-genuine .ensures) ∙ c .before .before .before .if1 .taken,
+      eq-eqb _ _ (c .before .if2 .taken),
+    )
+    (c .handed-back .ensures)
 
 moved-requires : tie.Need-moved-requires
-moved-requires c κs = (genuine-facts _ (sym (c .before .before .before .is-genuine .ensures) ∙ c .before .before .if1 .taken), c .if2 .left)
+moved-requires c κs =
+    (genuine-facts _ (sym (c .before .before .before .is-genuine .ensures) ∙ c .before .before .if1 .taken), c .if2 .left)
 
 handed-back-requires-2 : tie.Need-handed-back-requires-2
 handed-back-requires-2 c κs = search needs
 
 returns-2 : tie.Need-returns-2
 unfolding steppedOf refusedWith
-returns-2 c = rw (sym (c .before .before .before .before .before .is-genuine .ensures) ∙ c .before .before .before .before .if1 .taken, ne-eqb _ _ (c .before .before .if2 .left), ← c .before .moved .ensures) (c .handed-back2 .ensures)
+returns-2 c =
+    let at-if2 = c .before .before in
+    let at-if1 = at-if2 .before .before in
+    let at-is-genuine = at-if1 .before in
+    rw (
+      sym (at-is-genuine .is-genuine .ensures) ∙ at-if1 .if1 .taken,
+      ne-eqb _ _ (at-if2 .if2 .left),
+      ← c .before .moved .ensures,
+    )
+    (c .handed-back2 .ensures)
 
 handed-back-requires-3 : tie.Need-handed-back-requires-3
 handed-back-requires-3 c κs = search needs

@@ -27,7 +27,8 @@ array-share-prefix-populations : tie.Need-array-share-prefix-populations
 array-share-prefix-populations c = omega (arith, full-people (c .before .before .before), c .if1 .left)
 
 slice-aggregate-open-refusal : tie.Need-slice-aggregate-open-refusal
-slice-aggregate-open-refusal c = sym (length-take-le _ _ (omega (arith, full-people (c .before .before .before .before), c .before .if1 .left)))
+slice-aggregate-open-refusal c =
+    sym (length-take-le _ _ (omega (arith, full-people (c .before .before .before .before), c .before .if1 .left)))
 
 open-refusal-requires : tie.Need-open-refusal-requires
 open-refusal-requires c κs = search needs
@@ -37,37 +38,72 @@ unfolding peopleOf
 returns-2 c = sym (not-genuine _ (λ t. c .if2 .taken (c .before .open-refusal .ensures ∙ t .opens)))
 
 array-share-prefix-populations-2 : tie.Need-array-share-prefix-populations-2
-array-share-prefix-populations-2 c = omega (arith, full-people (c .before .before .before .before .before .before), c .before .before .before .if1 .left)
+array-share-prefix-populations-2 c =
+    let at-if1 = c .before .before .before in
+    let start = at-if1 .before .before .before in
+    omega (arith, full-people start, at-if1 .if1 .left)
 
 slice-aggregate-total-of : tie.Need-slice-aggregate-total-of
-slice-aggregate-total-of c = sym (length-take-le _ _ (omega (arith, full-people (c .before .before .before .before .before .before .before), c .before .before .before .before .if1 .left)))
+slice-aggregate-total-of c =
+    let at-if1 = c .before .before .before .before in
+    let start = at-if1 .before .before .before in
+    sym (length-take-le _ _ (omega (arith, full-people start, at-if1 .if1 .left)))
 
 total-of-requires : tie.Need-total-of-requires
 total-of-requires c κs = search needs
 
 array-share-prefix-populations-3 : tie.Need-array-share-prefix-populations-3
-array-share-prefix-populations-3 c = omega (arith, full-people (c .before .before .before .before .before .before .before .before), c .before .before .before .before .before .if1 .left)
+array-share-prefix-populations-3 c =
+    let at-if1 = c .before .before .before .before .before in
+    let start = at-if1 .before .before .before in
+    omega (arith, full-people start, at-if1 .if1 .left)
 
 slice-aggregate-steps-agree : tie.Need-slice-aggregate-steps-agree
-slice-aggregate-steps-agree c = sym (length-take-le _ _ (omega (arith, full-people (c .before .before .before .before .before .before .before .before .before), c .before .before .before .before .before .before .if1 .left)))
+slice-aggregate-steps-agree c =
+    let at-if1 = c .before .before .before .before .before .before in
+    let start = at-if1 .before .before .before in
+    sym (length-take-le _ _ (omega (arith, full-people start, at-if1 .if1 .left)))
 
 steps-agree-requires : tie.Need-steps-agree-requires
-steps-agree-requires c κs = opened-parts (sym (c .before .before .before .before .open-refusal .ensures) ∙ c .before .before .before .if2 .left) (c .before .total-of .ensures)
+steps-agree-requires c κs =
+    opened-parts
+    (sym (c .before .before .before .before .open-refusal .ensures) ∙ c .before .before .before .if2 .left)
+    (c .before .total-of .ensures)
 
 array-share-prefix-populations-4 : tie.Need-array-share-prefix-populations-4
-array-share-prefix-populations-4 c = omega (arith, full-people (c .before .before .before .before .before .before .before .before .before .before .before), c .before .before .before .before .before .before .before .before .if1 .left)
+array-share-prefix-populations-4 c =
+    let at-if1 = c .before .before .before .before .before .before .before .before in
+    let start = at-if1 .before .before .before in
+    omega (arith, full-people start, at-if1 .if1 .left)
 
 slice-aggregate-seats-agree : tie.Need-slice-aggregate-seats-agree
-slice-aggregate-seats-agree c = sym (length-take-le _ _ (omega (arith, full-people (c .before .before .before .before .before .before .before .before .before .before .before .before), c .before .before .before .before .before .before .before .before .before .if1 .left)))
+slice-aggregate-seats-agree c =
+    let at-if1 = c .before .before .before .before .before .before .before .before .before in
+    let start = at-if1 .before .before .before in
+    sym (length-take-le _ _ (omega (arith, full-people start, at-if1 .if1 .left)))
 
 array-share-prefix-seats : tie.Need-array-share-prefix-seats
-array-share-prefix-seats c = omega (arith, full-seats (c .before .before .before .before .before .before .before .before .before .before .before .before), c .before .before .before .before .before .before .before .before .before .if1 .left)
+array-share-prefix-seats c =
+    let at-if1 = c .before .before .before .before .before .before .before .before .before in
+    let start = at-if1 .before .before .before in
+    omega (arith, full-seats start, at-if1 .if1 .left)
 
 slice-aggregate-seats-agree-2 : tie.Need-slice-aggregate-seats-agree-2
-slice-aggregate-seats-agree-2 c = sym (length-take-le _ _ (omega (arith, full-seats (c .before .before .before .before .before .before .before .before .before .before .before .before .before), c .before .before .before .before .before .before .before .before .before .before .if1 .left)))
+slice-aggregate-seats-agree-2 c =
+    let at-if1 = c .before .before .before .before .before .before .before .before .before .before in
+    let start = at-if1 .before .before .before in
+    sym (length-take-le _ _ (omega (arith, full-seats start, at-if1 .if1 .left)))
 
 seats-agree-requires : tie.Need-seats-agree-requires
-seats-agree-requires c κs = (opened-parts (sym (c .before .before .before .before .before .before .before .before .open-refusal .ensures) ∙ c .before .before .before .before .before .before .before .if2 .left) (c .before .before .before .before .before .total-of .ensures), same-first _ _ _ (full-seats (c .before .before .before .before .before .before .before .before .before .before .before .before .before)) (full-people (c .before .before .before .before .before .before .before .before .before .before .before .before .before)) (c .before .before .before .before .before .before .before .before .before .before .if1 .left))
+seats-agree-requires c κs =
+    let at-total-of = c .before .before .before .before .before in
+    let at-if2 = at-total-of .before .before in
+    let at-open-refusal = at-if2 .before in
+    let at-if1 = at-open-refusal .before .before in
+    let start = at-if1 .before .before .before in (
+      opened-parts (sym (at-open-refusal .open-refusal .ensures) ∙ at-if2 .if2 .left) (at-total-of .total-of .ensures),
+      same-first _ _ _ (full-seats start) (full-people start) (at-if1 .if1 .left),
+    )
 
 slice-aggregate-zeros-from : tie.Need-slice-aggregate-zeros-from
 slice-aggregate-zeros-from c = search needs
@@ -83,7 +119,22 @@ zeros-from-requires-2 c κs = search needs
 
 returns-3 : tie.Need-returns-3
 unfolding peopleOf
-returns-3 c = c .zeros-from2 .ensures ∙ last-test (c .before .before .before .before .before .before .before .before .before .before .before .before .before .before .before .before .before .before .before .before .args .placing) (full-people (c .before .before .before .before .before .before .before .before .before .before .before .before .before .before .before .before .before .before .before .before)) (full-seats (c .before .before .before .before .before .before .before .before .before .before .before .before .before .before .before .before .before .before .before .before)) (c .before .before .before .before .before .before .before .before .before .before .before .before .before .before .before .before .before .if1 .left) (sym (c .before .before .before .before .before .before .before .before .before .before .before .before .before .before .before .open-refusal .ensures) ∙ c .before .before .before .before .before .before .before .before .before .before .before .before .before .before .if2 .left) (sym (c .before .before .before .before .before .before .before .before .before .before .steps-agree .ensures) ∙ c .before .before .before .before .before .before .before .before .before .if3 .taken) (sym (c .before .before .before .before .before .before .seats-agree .ensures) ∙ c .before .before .before .before .before .if4 .taken) (sym (c .before .before .before .zeros-from .ensures) ∙ c .before .before .if5 .taken)
+returns-3 c =
+    let at-if5 = c .before .before in
+    let at-zeros-from = at-if5 .before in
+    let at-if4 = at-zeros-from .before .before in
+    let at-seats-agree = at-if4 .before in
+    let at-if3 = at-seats-agree .before .before .before in
+    let at-steps-agree = at-if3 .before in
+    let at-if2 = at-steps-agree .before .before .before .before in
+    let at-open-refusal = at-if2 .before in
+    let at-if1 = at-open-refusal .before .before in
+    let start = at-if1 .before .before .before in
+    c .zeros-from2 .ensures ∙ last-test (start .args .placing) (full-people start) (full-seats start)
+    (at-if1 .if1 .left) (sym (at-open-refusal .open-refusal .ensures) ∙ at-if2 .if2 .left)
+    (sym (at-steps-agree .steps-agree .ensures) ∙ at-if3 .if3 .taken)
+    (sym (at-seats-agree .seats-agree .ensures) ∙ at-if4 .if4 .taken)
+    (sym (at-zeros-from .zeros-from .ensures) ∙ at-if5 .if5 .taken)
 
 returns-4 : tie.Need-returns-4
 unfolding peopleOf

@@ -18,15 +18,26 @@ each-within-requires : tie.Need-each-within-requires
 each-within-requires c κs = search needs
 
 ends-apart-requires : tie.Need-ends-apart-requires
-ends-apart-requires c κs = seats-seated (c .before .before .before .before .before .before .pre .0) (c .before .before .before .before .before .before .pre .1) (sym (c .before .each-within .ensures) ∙ c .if2 .taken)
+ends-apart-requires c κs =
+    let start = c .before .before .before .before .before .before in
+    seats-seated (start .pre .0) (start .pre .1) (sym (c .before .each-within .ensures) ∙ c .if2 .taken)
 
 returns-2 : tie.Need-returns-2
 unfolding seatsAgree
-returns-2 c = simp (eq-eqb _ _ (sym (c .before .before .before .before .total-of .ensures) ∙ c .before .before .before .if1 .left), sym (c .before .before .each-within .ensures) ∙ c .before .if2 .taken, c .ends-apart .ensures)
+returns-2 c =
+    simp (
+      eq-eqb _ _ (sym (c .before .before .before .before .total-of .ensures) ∙ c .before .before .before .if1 .left),
+      sym (c .before .before .each-within .ensures) ∙ c .before .if2 .taken,
+      c .ends-apart .ensures,
+    )
 
 returns-3 : tie.Need-returns-3
 unfolding seatsAgree
-returns-3 c = simp (eq-eqb _ _ (sym (c .before .before .before .total-of .ensures) ∙ c .before .before .if1 .left), sym (c .before .each-within .ensures) ∙ c .if2 .left)
+returns-3 c =
+    simp (
+      eq-eqb _ _ (sym (c .before .before .before .total-of .ensures) ∙ c .before .before .if1 .left),
+      sym (c .before .each-within .ensures) ∙ c .if2 .left,
+    )
 
 pub seats-agree-spec : {M : Type 1} → statement M
 seats-agree-spec =

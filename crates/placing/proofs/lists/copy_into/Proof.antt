@@ -38,13 +38,23 @@ loop-less : tie.Need-loop-less Inv-loop μ-loop
 loop-less c = search needs
 
 loop-again : tie.Need-loop-again Inv-loop μ-loop
-loop-again c = (omega (arith, c .before .loop-test .taken), simp length-set (c .before .before .loop .inv .1), filled-next (λ (k : ℕ). getD (c .before .before .before .args .from .now) k 0) (c .before .before .loop .to) (c .before .before .loop .i) (getD (c .before .before .before .args .from .now) (c .before .before .loop .i) 0) (omega (arith, c .before .loop-test .taken, c .before .before .loop .inv .1)) refl (c .before .before .loop .inv .2))
+loop-again c = (
+  omega (arith, c .before .loop-test .taken),
+  simp length-set (c .before .before .loop .inv .1),
+  filled-next
+      (λ (k : ℕ). getD (c .before .before .before .args .from .now) k 0) (c .before .before .loop .to)
+      (c .before .before .loop .i)
+      (getD (c .before .before .before .args .from .now) (c .before .before .loop .i) 0)
+      (omega (arith, c .before .loop-test .taken, c .before .before .loop .inv .1)) refl (c .before .before .loop .inv .2),
+)
 
 same-length : tie.Need-same-length Inv-loop μ-loop
 same-length c = search needs
 
 returns : tie.Need-returns Inv-loop μ-loop
-returns c = ext-getD 0 _ _ (c .before .loop .inv .1) (λ k h. c .before .loop .inv .2 k (omega (arith, h, c .loop-test .left, c .before .loop .inv .1)))
+returns c =
+    ext-getD 0 _ _ (c .before .loop .inv .1)
+    (λ k h. c .before .loop .inv .2 k (omega (arith, h, c .loop-test .left, c .before .loop .inv .1)))
 
 pub copy-into-spec : {M : Type 1} → statement M
 copy-into-spec =

@@ -24,7 +24,10 @@ shared-slice-read-if1 : tie.Need-shared-slice-read-if1 Inv-loop μ-loop
 shared-slice-read-if1 c = search needs
 
 returns : tie.Need-returns Inv-loop μ-loop
-returns c = sym (c .before .before .before .loop .inv ∙ beyond-found _ _ _ (c .before .before .loop-test .taken) (zero-not-within _ _ (c .if1 .taken)))
+returns c =
+    sym
+    (c .before .before .before .loop .inv ∙ beyond-found _ _ _ (c .before .before .loop-test .taken)
+    (zero-not-within _ _ (c .if1 .taken)))
 
 mul-if2 : tie.Need-mul-if2 Inv-loop μ-loop
 mul-if2 c = search needs
@@ -33,7 +36,10 @@ shared-slice-read-if2 : tie.Need-shared-slice-read-if2 Inv-loop μ-loop
 shared-slice-read-if2 c = search needs
 
 returns-2 : tie.Need-returns-2 Inv-loop μ-loop
-returns-2 c = sym (c .before .before .before .before .before .loop .inv ∙ beyond-found _ _ _ (c .before .before .before .before .loop-test .taken) (beyond-not-within _ _ (c .if2 .taken)))
+returns-2 c =
+    let at-test = c .before .before .before .before in
+    let at-loop = at-test .before in
+    sym (at-loop .loop .inv ∙ beyond-found _ _ _ (at-test .loop-test .taken) (beyond-not-within _ _ (c .if2 .taken)))
 
 add-i : tie.Need-add-i Inv-loop μ-loop
 add-i c = search needs
@@ -42,7 +48,11 @@ loop-less : tie.Need-loop-less Inv-loop μ-loop
 loop-less c = search needs
 
 loop-again : tie.Need-loop-again Inv-loop μ-loop
-loop-again c = c .before .before .before .before .before .loop .inv ∙ within-next _ _ _ (c .before .before .before .before .loop-test .taken) (within-yes _ _ (c .before .before .if1 .left) (c .if2 .left))
+loop-again c =
+    let at-if1 = c .before .before in
+    let at-test = at-if1 .before .before in
+    let at-loop = at-test .before in
+    at-loop .loop .inv ∙ within-next _ _ _ (at-test .loop-test .taken) (within-yes _ _ (at-if1 .if1 .left) (c .if2 .left))
 
 returns-3 : tie.Need-returns-3 Inv-loop μ-loop
 returns-3 c = sym (c .before .loop .inv ∙ within-end _ _ _ (c .loop-test .left))

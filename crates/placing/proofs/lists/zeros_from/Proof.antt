@@ -33,7 +33,8 @@ loop-less c = search needs
 loop-again : tie.Need-loop-again Inv-loop μ-loop
 loop-again c =
     c .before .before .loop .inv
-    ∙ zeros-step (c .before .before .loop .clear) (c .before .before .before .args .list .now) (c .before .before .loop .i) (c .before .loop-test .taken)
+    ∙ zeros-step (c .before .before .loop .clear) (c .before .before .before .args .list .now) (c .before .before .loop .i)
+    (c .before .loop-test .taken)
 
 returns : tie.Need-returns Inv-loop μ-loop
 returns c = sym (c .before .loop .inv ∙ zeros-end (c .before .loop .clear) _ _ (c .loop-test .left))

@@ -42,7 +42,8 @@ returns-2 c =
     c .refused2 .ensures
     ∙ simp (
       rw (c .before .before .before .before .closing-refusal .ensures) at (eq-eqb _ _ (c .before .before .before .if1 .left)),
-      rw (c .before .before .rest .ensures) at (ne-eqb (length (c .before .before .rest .result .now)) 0 (λ none. absurd (omega arith))),
+      rw (c .before .before .rest .ensures) at
+          (ne-eqb (length (c .before .before .rest .result .now)) 0 (λ none. absurd (omega arith))),
     )
 
 accepts-requires : tie.Need-accepts-requires

@@ -28,7 +28,8 @@ abbrev μ-loop : tie.MeasureT-loop
 
 refusal-is :
     (c : tie.After-read-state Inv-loop μ-loop)
-    → let l = c .before .before .before .loop in c .read-state .result .refusal ≡ stateRefusal (c .before .before .before .before .before .args .first .now) (l .k) (l .sum) (l .t .now)
+    → let l = c .before .before .before .loop in c .read-state .result .refusal ≡ stateRefusal
+    (c .before .before .before .before .before .args .first .now) (l .k) (l .sum) (l .t .now)
 refusal-is c = ap (λ r. r .refusal) (c .read-state .ensures) ∙ line-refusal _ _ _ _
 
 good : (c : tie.Else1 Inv-loop μ-loop) → let l = c .before .before .before .before .loop in stateRefusal (c .before .before .before .before .before .before .args .first .now) (l .k) (l .sum) (l .t .now) ≡ accepted
@@ -43,7 +44,8 @@ population-is c = ap (λ r. r .population) (line-is c)
 
 line-sound :
     (c : tie.Else1 Inv-loop μ-loop)
-    → let l = c .before .before .before .before .loop in StateSound (c .before .before .before .before .before .before .args .first .now) (l .k) (l .sum) (l .t .now)
+    → let l = c .before .before .before .before .loop in StateSound
+    (c .before .before .before .before .before .before .args .first .now) (l .k) (l .sum) (l .t .now)
 line-sound c = state-sound _ _ _ _ (good c)
 
 loop-holds : tie.Need-loop-holds Inv-loop μ-loop
@@ -75,22 +77,32 @@ returns c =
     ∙ rw (refusal-is (c .before .before)))
 
 mul-populations : tie.Need-mul-populations Inv-loop μ-loop
-mul-populations c = omega (arith, c .before .before .before .before .before .before .pre)
+mul-populations c =
+    let start = c .before .before .before .before .before .before in
+    omega (arith, start .pre)
 
 array-write-populations : tie.Need-array-write-populations Inv-loop μ-loop
-array-write-populations c = omega (arith, c .before .before .before .before .before .before .pre)
+array-write-populations c =
+    let start = c .before .before .before .before .before .before in
+    omega (arith, start .pre)
 
 mul-prints : tie.Need-mul-prints Inv-loop μ-loop
-mul-prints c = omega (arith, c .before .before .before .before .before .before .pre)
+mul-prints c =
+    let start = c .before .before .before .before .before .before in
+    omega (arith, start .pre)
 
 array-write-prints : tie.Need-array-write-prints Inv-loop μ-loop
-array-write-prints c = omega (arith, c .before .before .before .before .before .before .pre)
+array-write-prints c =
+    let start = c .before .before .before .before .before .before in
+    omega (arith, start .pre)
 
 add-sum : tie.Need-add-sum Inv-loop μ-loop
 add-sum c = omega (arith, population-is (c .before), line-sound (c .before) .fits)
 
 add-k : tie.Need-add-k Inv-loop μ-loop
-add-k c = omega (arith, c .before .before .before .before .before .before .before .pre)
+add-k c =
+    let start = c .before .before .before .before .before .before .before in
+    omega (arith, start .pre)
 
 rest-from-requires : tie.Need-rest-from-requires Inv-loop μ-loop
 unfolding lineRead
@@ -107,7 +119,9 @@ loop-again c = (
   kept-more _ _ _ _ _ _ (c .before .before .before .before .before .before .loop .inv .2) (omega (arith, c .before .before .before .before .before .before .before .before .pre))
       (c .rest-from .ensures) (ap (λ r. r .print) (line-is (c .before .before))),
   c .before .before .before .before .before .before .loop .inv .3
-      ∙ states-passed _ _ _ (c .before .before .before .before .before .before .before .before .args .head .states - (c .before .before .before .before .before .before .loop .k + 1)) _ _ _ _ (omega arith) (good (c .before .before))
+      ∙ states-passed _ _ _
+      (c .before .before .before .before .before .before .before .before .args .head .states -
+      (c .before .before .before .before .before .before .loop .k + 1)) _ _ _ _ (omega arith) (good (c .before .before))
       ∙ rw (population-is (c .before .before), c .rest-from .ensures),
 )
 

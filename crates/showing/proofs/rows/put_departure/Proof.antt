@@ -40,21 +40,38 @@ same-length c = search needs
 
 returns : tie.Need-returns
 unfolding departureText answerText
-returns c = rw (sym (c .before .before .before .before .before .before .before .departure-of .ensures) ∙ c .before .before .before .before .before .enum-told .given .1) (c .before .before .put-bytes .ensures)
+returns c =
+    let at-put-bytes = c .before .before in
+    let at-enum-told = at-put-bytes .before .before .before in
+    let at-departure-of = at-enum-told .before .before in
+    rw (sym (at-departure-of .departure-of .ensures) ∙ at-enum-told .enum-told .given .1) (at-put-bytes .put-bytes .ensures)
 
 same-length-2 : tie.Need-same-length-2
 same-length-2 c = search needs
 
 returns-2 : tie.Need-returns-2
 unfolding departureText answerText
-returns-2 c = rw (sym (c .before .before .before .before .before .before .before .departure-of .ensures) ∙ c .before .before .before .before .before .enum-told2 .given .1) (c .before .before .put-bytes2 .ensures)
+returns-2 c =
+    let at-put-bytes2 = c .before .before in
+    let at-enum-told2 = at-put-bytes2 .before .before .before in
+    let at-departure-of = at-enum-told2 .before .before in
+    rw (sym (at-departure-of .departure-of .ensures) ∙ at-enum-told2 .enum-told2 .given .1) (at-put-bytes2 .put-bytes2 .ensures)
 
 same-length-3 : tie.Need-same-length-3
 same-length-3 c = search needs
 
 returns-3 : tie.Need-returns-3
 unfolding departureText answerText
-returns-3 c = rw (sym (c .before .before .before .before .before .before .before .departure-of .ensures) ∙ c .before .before .before .before .before .answer .given .1, ← toZ-ofZ w64 (c .before .before .before .before .before .answer .given .0 .0) (record { sfits = c .before .before .before .before .known-told .given .0 .1 })) (c .before .before .put-shown .ensures)
+returns-3 c =
+    let at-put-shown = c .before .before in
+    let at-known-told = at-put-shown .before .before in
+    let at-answer = at-known-told .before in
+    let at-departure-of = at-answer .before .before in
+    rw (
+      sym (at-departure-of .departure-of .ensures) ∙ at-answer .answer .given .1,
+      ← toZ-ofZ w64 (at-answer .answer .given .0 .0) (record { sfits = at-known-told .known-told .given .0 .1 }),
+    )
+    (at-put-shown .put-shown .ensures)
 
 pub put-departure-spec : {M : Type 1} → statement M
 put-departure-spec =

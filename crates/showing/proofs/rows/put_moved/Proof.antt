@@ -29,7 +29,22 @@ same-length c = search needs
 
 returns : tie.Need-returns
 unfolding movedText
-returns c = wrote-then (wrote-then (wrote-then (wrote-then (wrote-then (c .before .before .before .before .before .before .before .before .before .before .before .before .before .before .before .before .before .before .before .before .before .before .put-bytes .ensures) (c .before .before .before .before .before .before .before .before .before .before .before .before .before .before .before .before .before .before .put-numbers .ensures)) (c .before .before .before .before .before .before .before .before .before .before .before .before .before .before .put-byte .ensures)) (c .before .before .before .before .before .before .before .before .before .before .put-departure .ensures)) (c .before .before .before .before .before .before .put-byte2 .ensures)) (c .before .before .put-departure2 .ensures)
+returns c =
+    let at-put-departure2 = c .before .before in
+    let at-put-byte2 = at-put-departure2 .before .before .before .before in
+    let at-put-departure = at-put-byte2 .before .before .before .before in
+    let at-put-byte = at-put-departure .before .before .before .before in
+    let at-put-numbers = at-put-byte .before .before .before .before in
+    let at-put-bytes = at-put-numbers .before .before .before .before in
+    wrote-then
+    (wrote-then
+    (wrote-then
+    (wrote-then
+    (wrote-then (at-put-bytes .put-bytes .ensures) (at-put-numbers .put-numbers .ensures))
+    (at-put-byte .put-byte .ensures))
+    (at-put-departure .put-departure .ensures))
+    (at-put-byte2 .put-byte2 .ensures))
+    (at-put-departure2 .put-departure2 .ensures)
 
 pub put-moved-spec : {M : Type 1} → statement M
 put-moved-spec =

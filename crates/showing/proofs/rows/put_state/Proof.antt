@@ -29,7 +29,22 @@ same-length c = search needs
 
 returns : tie.Need-returns
 unfolding stateLine
-returns c = wrote-then (wrote-then (wrote-then (wrote-then (wrote-then (c .before .before .before .before .before .before .before .before .before .before .before .before .before .before .before .before .before .before .before .before .before .before .put-bytes .ensures) (c .before .before .before .before .before .before .before .before .before .before .before .before .before .before .before .before .before .before .put-bytes2 .ensures)) (c .before .before .before .before .before .before .before .before .before .before .before .before .before .before .put-numbers .ensures)) (c .before .before .before .before .before .before .before .before .before .before .put-byte .ensures)) (c .before .before .before .before .before .before .put-departure .ensures)) (c .before .before .put-byte2 .ensures)
+returns c =
+    let at-put-byte2 = c .before .before in
+    let at-put-departure = at-put-byte2 .before .before .before .before in
+    let at-put-byte = at-put-departure .before .before .before .before in
+    let at-put-numbers = at-put-byte .before .before .before .before in
+    let at-put-bytes2 = at-put-numbers .before .before .before .before in
+    let at-put-bytes = at-put-bytes2 .before .before .before .before in
+    wrote-then
+    (wrote-then
+    (wrote-then
+    (wrote-then
+    (wrote-then (at-put-bytes .put-bytes .ensures) (at-put-bytes2 .put-bytes2 .ensures))
+    (at-put-numbers .put-numbers .ensures))
+    (at-put-byte .put-byte .ensures))
+    (at-put-departure .put-departure .ensures))
+    (at-put-byte2 .put-byte2 .ensures)
 
 pub put-state-spec : {M : Type 1} → statement M
 put-state-spec =

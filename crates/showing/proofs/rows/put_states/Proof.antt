@@ -13,14 +13,18 @@ use Rattle.showing.proofs.rows.put_states.Statement.{statement}
 use Rattle.showing.proofs.rows.put_states.Tie as tie
 
 abbrev Inv-loop : tie.InvT-loop
-Inv-loop out₀ at word rows populations seats sum house next₀ row₀ k₀ out next row k = (k ≤ length populations) × (row ≡ linesAfter k rows) × Wrote out₀ at (stateLines word rows populations seats sum house k) out next
+Inv-loop out₀ at word rows populations seats sum house next₀ row₀ k₀ out next row k =
+    (k ≤ length populations) × (row ≡ linesAfter k rows) × Wrote out₀ at
+    (stateLines word rows populations seats sum house k) out next
 
 abbrev μ-loop : tie.MeasureT-loop
 μ-loop out₀ at word rows populations seats sum house next₀ row₀ k₀ out next row k = length populations - k
 
 loop-holds : tie.Need-loop-holds Inv-loop μ-loop
 unfolding linesAfter stateLines
-loop-holds c = (omega arith, refl, (c .before .before .before .before .before .pre) .0)
+loop-holds c =
+    let start = c .before .before .before .before .before in
+    (omega arith, refl, (start .pre) .0)
 
 name-at-requires : tie.Need-name-at-requires Inv-loop μ-loop
 name-at-requires c κs = search needs
@@ -32,10 +36,14 @@ shared-slice-read-put-state : tie.Need-shared-slice-read-put-state Inv-loop μ-l
 shared-slice-read-put-state c = search needs
 
 mul-put-state-2 : tie.Need-mul-put-state-2 Inv-loop μ-loop
-mul-put-state-2 c = omega (arith, (c .before .before .before .before .before .before .before .before .before .before .pre) .1)
+mul-put-state-2 c =
+    let start = c .before .before .before .before .before .before .before .before .before .before in
+    omega (arith, (start .pre) .1)
 
 shared-slice-read-put-state-2 : tie.Need-shared-slice-read-put-state-2 Inv-loop μ-loop
-shared-slice-read-put-state-2 c = omega (arith, (c .before .before .before .before .before .before .before .before .before .before .before .pre) .1)
+shared-slice-read-put-state-2 c =
+    let start = c .before .before .before .before .before .before .before .before .before .before .before in
+    omega (arith, (start .pre) .1)
 
 put-state-requires : tie.Need-put-state-requires Inv-loop μ-loop
 put-state-requires c κs = search needs
@@ -50,13 +58,25 @@ loop-less : tie.Need-loop-less Inv-loop μ-loop
 loop-less c = search needs
 
 loop-again : tie.Need-loop-again Inv-loop μ-loop
-loop-again c = (omega arith, cc (add-one (c .before .before .before .before .before .before .before .before .before .loop .k), lines-next (c .before .before .before .before .before .before .before .before .before .loop .k) (c .before .before .before .before .before .before .before .before .before .before .before .before .before .before .before .args .rows .now)), rw state-lines-more (wrote-then (c .before .before .before .before .before .before .before .before .before .loop .inv .2) (rw (c .before .before .before .before .before .before .name-at .ensures, c .before .before .before .before .before .before .before .before .before .loop .inv .1) at (c .before .before .before .put-state .ensures))))
+loop-again c =
+    let at-put-state = c .before .before .before in
+    let at-name-at = at-put-state .before .before .before in
+    let at-loop = at-name-at .before .before .before in
+    let start = at-loop .before .before .before .before .before .before in (
+      omega arith,
+      cc (add-one (at-loop .loop .k), lines-next (at-loop .loop .k) (start .args .rows .now)),
+      rw state-lines-more
+          (wrote-then (at-loop .loop .inv .2)
+          (rw (at-name-at .name-at .ensures, at-loop .loop .inv .1) at (at-put-state .put-state .ensures))),
+    )
 
 same-length : tie.Need-same-length Inv-loop μ-loop
 same-length c = wrote-length (c .before .loop .inv .2)
 
 returns : tie.Need-returns Inv-loop μ-loop
-returns c = let all : (c .before .loop .k) ≡ length (c .before .before .before .before .before .before .before .args .populations .now) = omega arith in rw all at (c .before .loop .inv .2)
+returns c =
+    let start = c .before .before .before .before .before .before .before in
+    let all : (c .before .loop .k) ≡ length (start .args .populations .now) = omega arith in rw all at (c .before .loop .inv .2)
 
 pub put-states-spec : {M : Type 1} → statement M
 put-states-spec =

@@ -17,7 +17,10 @@ same-length c = search needs
 
 returns : tie.Need-returns
 unfolding verbText
-returns c = rw (lt-ltb _ _ (c .before .before .before .before .before .if1 .taken)) (c .before .before .put-bytes .ensures)
+returns c =
+    let at-put-bytes = c .before .before in
+    let at-if1 = at-put-bytes .before .before .before in
+    rw (lt-ltb _ _ (at-if1 .if1 .taken)) (at-put-bytes .put-bytes .ensures)
 
 slice-aggregate-put-bytes-2 : tie.Need-slice-aggregate-put-bytes-2
 slice-aggregate-put-bytes-2 c = search needs
@@ -30,7 +33,10 @@ same-length-2 c = search needs
 
 returns-2 : tie.Need-returns-2
 unfolding verbText
-returns-2 c = rw (le-ltb _ _ (c .before .before .before .before .before .if1 .left)) (c .before .before .put-bytes2 .ensures)
+returns-2 c =
+    let at-put-bytes2 = c .before .before in
+    let at-if1 = at-put-bytes2 .before .before .before in
+    rw (le-ltb _ _ (at-if1 .if1 .left)) (at-put-bytes2 .put-bytes2 .ensures)
 
 pub put-verb-spec : {M : Type 1} → statement M
 put-verb-spec =

@@ -29,7 +29,19 @@ same-length c = search needs
 
 returns : tie.Need-returns
 unfolding weighedLine
-returns c = wrote-then (wrote-then (wrote-then (wrote-then (c .before .before .before .before .before .before .before .before .before .before .before .before .before .before .before .before .before .before .put-bytes .ensures) (c .before .before .before .before .before .before .before .before .before .before .before .before .before .before .put-decimal .ensures)) (c .before .before .before .before .before .before .before .before .before .before .put-byte .ensures)) (c .before .before .before .before .before .before .put-moved .ensures)) (c .before .before .put-byte2 .ensures)
+returns c =
+    let at-put-byte2 = c .before .before in
+    let at-put-moved = at-put-byte2 .before .before .before .before in
+    let at-put-byte = at-put-moved .before .before .before .before in
+    let at-put-decimal = at-put-byte .before .before .before .before in
+    let at-put-bytes = at-put-decimal .before .before .before .before in
+    wrote-then
+    (wrote-then
+    (wrote-then
+    (wrote-then (at-put-bytes .put-bytes .ensures) (at-put-decimal .put-decimal .ensures))
+    (at-put-byte .put-byte .ensures))
+    (at-put-moved .put-moved .ensures))
+    (at-put-byte2 .put-byte2 .ensures)
 
 pub put-weighed-spec : {M : Type 1} → statement M
 put-weighed-spec =

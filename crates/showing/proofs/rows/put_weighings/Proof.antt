@@ -13,7 +13,9 @@ use Rattle.showing.proofs.rows.put_weighings.Statement.{statement}
 use Rattle.showing.proofs.rows.put_weighings.Tie as tie
 
 abbrev Inv-loop : tie.InvT-loop
-Inv-loop out₀ at step adds rows populations seats sum house next₀ row₀ k₀ out next row k = (k ≤ length populations) × (row ≡ linesAfter k rows) × Wrote out₀ at (weighedLines step adds rows populations seats sum house k) out next
+Inv-loop out₀ at step adds rows populations seats sum house next₀ row₀ k₀ out next row k =
+    (k ≤ length populations) × (row ≡ linesAfter k rows) × Wrote out₀ at
+    (weighedLines step adds rows populations seats sum house k) out next
 
 abbrev μ-loop : tie.MeasureT-loop
 μ-loop out₀ at step adds rows populations seats sum house next₀ row₀ k₀ out next row k = length populations - k
@@ -54,13 +56,28 @@ loop-less c = search needs
 
 loop-again : tie.Need-loop-again Inv-loop μ-loop
 unfolding weighedAt
-loop-again c = (omega arith, cc (add-one (c .before .before .before .before .before .before .before .before .before .before .loop .k), lines-next (c .before .before .before .before .before .before .before .before .before .before .loop .k) (c .before .before .before .before .before .before .before .before .before .before .before .before .before .before .before .args .rows .now)), rw weighed-lines-more (wrote-then (c .before .before .before .before .before .before .before .before .before .before .loop .inv .2) (rw (c .before .before .before .before .seats-if-moved .ensures, c .before .before .before .before .before .before .name-at .ensures, c .before .before .before .before .before .before .before .before .before .before .loop .inv .1) at (c .before .before .before .put-weighed .ensures))))
+loop-again c =
+    let at-put-weighed = c .before .before .before in
+    let at-seats-if-moved = at-put-weighed .before in
+    let at-name-at = at-seats-if-moved .before .before in
+    let at-loop = at-name-at .before .before .before .before in
+    let start = at-loop .before .before .before .before .before in (
+      omega arith,
+      cc (add-one (at-loop .loop .k), lines-next (at-loop .loop .k) (start .args .rows .now)),
+      rw weighed-lines-more
+          (wrote-then (at-loop .loop .inv .2)
+          (rw
+          (at-seats-if-moved .seats-if-moved .ensures, at-name-at .name-at .ensures, at-loop .loop .inv .1) at
+          (at-put-weighed .put-weighed .ensures))),
+    )
 
 same-length : tie.Need-same-length Inv-loop μ-loop
 same-length c = wrote-length (c .before .loop .inv .2)
 
 returns : tie.Need-returns Inv-loop μ-loop
-returns c = let all : (c .before .loop .k) ≡ length (c .before .before .before .before .before .before .args .populations .now) = omega arith in rw all at (c .before .loop .inv .2)
+returns c =
+    let start = c .before .before .before .before .before .before in
+    let all : (c .before .loop .k) ≡ length (start .args .populations .now) = omega arith in rw all at (c .before .loop .inv .2)
 
 pub put-weighings-spec : {M : Type 1} → statement M
 put-weighings-spec =
