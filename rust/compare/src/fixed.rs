@@ -12,6 +12,7 @@ pub fn fixed(seed: u64) -> Vec<Case> {
     let random = &mut Random::new(seed, u64::MAX);
     let mut cases = examples();
     cases.extend(limits(random));
+    cases.extend(alike(random));
     let listed = b"register,leximin,20,5\r\nA,26\nB,27\r\nC,28\nD,29\nE,91\ntotal,201\n".to_vec();
     let small = (0..).map(|_| damage::sound(random).bytes());
     let small: Vec<u8> = small
@@ -171,4 +172,42 @@ fn limits(random: &mut Random) -> Vec<Case> {
         });
     }
     cases
+}
+
+/// Registers whose names have one fingerprint in the library, which keeps 32 bits of each: all
+/// different, and with a name used again.
+fn alike(random: &mut Random) -> Vec<Case> {
+    let names = alike_names();
+    let mut cases = Vec::new();
+    for n in [2, 3, 50, 250] {
+        for used in [None, Some(0), Some(n / 2), Some(n - 2)] {
+            let mut names = names[..n].to_vec();
+            if let Some(used) = used {
+                names[n - 1] = names[used].clone();
+            }
+            let bytes = Draft::plain("webster", 300, &names, &vec![7; n]).bytes();
+            cases.push(seeded::around(random, bytes));
+        }
+    }
+    cases
+}
+
+/// 250 names of 32 bytes with one fingerprint: adding these eight numbers to eight bytes in a row
+/// leaves it as it was, wherever they stand.
+fn alike_names() -> Vec<String> {
+    const NUMBERS: [i32; 8] = [-11, 2, -6, 5, 9, -6, 12, 3];
+    let mut names = Vec::new();
+    for first in 0..25 {
+        for second in first..25 {
+            let mut bytes = [80; 32];
+            for at in [first, second] {
+                for (byte, number) in bytes[at..].iter_mut().zip(NUMBERS) {
+                    *byte += number;
+                }
+            }
+            names.push(bytes.iter().map(|byte| *byte as u8 as char).collect());
+        }
+    }
+    names.truncate(250);
+    names
 }
