@@ -1,11 +1,7 @@
 // Makes a step, writes its line and compares.
 use libc::STDOUT_FILENO;
 use placing::Placing;
-
-pub fn heading(words: &[u8]) {
-    io::write_all(STDOUT_FILENO, words);
-    io::write_all(STDOUT_FILENO, b"\n");
-}
+use reporting::same;
 
 // Steps a placing and hands back what the step handed back.
 pub fn stepped(case: &[u8], placing: Placing, expected: u64) -> Placing {
@@ -71,19 +67,4 @@ fn same_seats(a: Placing, b: Placing) -> bool {
     let xs = a.seats;
     let ys = b.seats;
     same(&xs, &ys)
-}
-
-// Two lists hold the same numbers.
-fn same(xs: &[u64], ys: &[u64]) -> bool {
-    if xs.len() != ys.len() {
-        return false;
-    }
-    let mut i = 0;
-    while i < xs.len() {
-        if xs[i] != ys[i] {
-            return false;
-        }
-        i += 1;
-    }
-    true
 }

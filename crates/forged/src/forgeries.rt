@@ -1,8 +1,8 @@
 // The forgeries. Each is a placing that opening and steps gave, with one thing changed.
-use crate::compare::heading;
 use crate::compare::refused;
 use crate::compare::stepped;
 use placing::Placing;
+use reporting::heading;
 
 const HIGHEST: u64 = 18_446_744_073_709_551_615;
 

@@ -4,9 +4,9 @@
 mod compare;
 mod forgeries;
 
-use crate::compare::heading;
 use crate::compare::stepped;
 use placing::Placing;
+use reporting::heading;
 
 fn main() {
     heading(b"69, 70, 150 and a house of 14: a seat is placed");

@@ -3,8 +3,8 @@ use crate::answers;
 use crate::answers::ANSWER_ROOM;
 use crate::answers::front;
 use crate::compare::answered;
-use crate::compare::heading;
 use fields::parts::same;
+use reporting::heading;
 
 pub fn lent() {
     heading(b"31, document 01's listing of 124 bytes in a lent buffer");

@@ -50,7 +50,7 @@ fn run(line: &[u8]) {
     let meant = front(&page, size);
     let case = after(meant, BAR);
     if case.len() == 0 {
-        compare::heading(meant);
+        reporting::heading(meant);
         return;
     }
     let register = after(case, BAR);

@@ -5,11 +5,6 @@ use crate::answers::front;
 use fields::parts::same;
 use libc::STDOUT_FILENO;
 
-pub fn heading(words: &[u8]) {
-    io::write_all(STDOUT_FILENO, words);
-    io::write_all(STDOUT_FILENO, b"\n");
-}
-
 // Reads a register.
 pub fn reads(case: &[u8], register: &[u8], expected: &[u8]) {
     let mut page = [0u8; ANSWER_ROOM];

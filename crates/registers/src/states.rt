@@ -1,7 +1,7 @@
 // Registers of many states, which are too long to write out.
 use crate::answers::front;
-use crate::compare::heading;
 use crate::compare::reads;
+use reporting::heading;
 
 // Room for a register of 251 states.
 const STATES_ROOM: usize = 2_048;

@@ -4,6 +4,7 @@
 use allot::allot;
 use apportionment::Method;
 use libc::STDOUT_FILENO;
+use reporting::same;
 ghost use Prim.Native.Nat.{_≤_};
 
 // Table 4: the voters of the twenty counties in 2010, and their seats by leximin.
@@ -419,21 +420,6 @@ fn within_room(places: usize) -> usize
         return places;
     }
     ROOM
-}
-
-// Two lists hold the same numbers.
-fn same(xs: &[u64], ys: &[u64]) -> bool {
-    if xs.len() != ys.len() {
-        return false;
-    }
-    let mut i = 0;
-    while i < xs.len() {
-        if xs[i] != ys[i] {
-            return false;
-        }
-        i += 1;
-    }
-    true
 }
 
 // A list holds one number throughout.

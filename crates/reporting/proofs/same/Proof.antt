@@ -3,8 +3,8 @@
 use Prim.Native.Nat.{_-_, _≤_}
 use lib.ListN.{length}
 use borrow.Author.Needs.{needs}
-use Rattle.tables.proofs.same.Statement.{statement}
-use Rattle.tables.proofs.same.Tie as tie
+use Rattle.reporting.proofs.same.Statement.{statement}
+use Rattle.reporting.proofs.same.Tie as tie
 
 abbrev Inv-loop : tie.InvT-loop
 Inv-loop xs ys i₀ i = i ≤ length xs
