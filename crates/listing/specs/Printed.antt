@@ -8,12 +8,11 @@ use native.Mathlib.Nat.{le-refl}
 use native.Mathlib.Omega.{arith}
 use borrow.Author.Tests.{eq-eqb, ne-eqb, eqb-true, eqb-false, leb-true, le-leb}
 use lib.Dec.{leb, eqb}
-use lib.ListN.{length, drop, length-append}
-use lib.Seq.{take-at}
+use lib.ListN.{length, drop}
 use Rattle.apportionment.specs.Refusals.{accepted, bufferTooShort}
 use Rattle.text.specs.Bounds.{refusal-line-length}
 use Rattle.text.specs.Shared.{refusalLine}
-use Rattle.text.specs.Writing.{Wrote, AtFront, wrote-front}
+use Rattle.text.specs.Writing.{Wrote, front-wrote}
 use Rattle.register.specs.Register.{readingOf}
 use Rattle.listing.specs.declared.Listed.{Listed}
 use Rattle.listing.specs.Listing.{listingOf, refused, allotRefusalIn, fittedOf, listedIn, listedOf, bufferAfter, ListingIs, printedOf}
@@ -26,8 +25,8 @@ fits-exactly : (listing : List ℕ) (room : ℕ) → length listing ≤ room →
 unfolding fittedOf
 fits-exactly listing room fits = rw (le-leb _ _ fits, le-leb _ _ (le-refl (length listing)))
 
--- It says the same as one that the listing just fits.
-same-answer : (s : List ℕ) (room : ℕ) → listingRoom ≤ room → listedOf s room ≡ listedOf s (length (listingOf s))
+-- It is answered as one that the listing just fits, so never for want of room.
+pub same-answer : (s : List ℕ) (room : ℕ) → listingRoom ≤ room → listedOf s room ≡ listedOf s (length (listingOf s))
 unfolding listedOf listedIn
 same-answer s room enough =
     by-tests (eqb (readingOf s .refusal) accepted) (eqb (allotRefusalIn (readingOf s)) accepted) refl refl
@@ -66,30 +65,31 @@ whole-size s room =
 
 -- ---- what is printed
 
+-- What is printed is written at the front of the page, which has room for it.
+abbrev Printed : (s before after : List ℕ) (end : ℕ) → Type 0
+Printed s before after end = Wrote before 0 (printedOf s) after end × (length (printedOf s) ≤ length before)
+
 module _ {s before : List ℕ} {r : Listed} {after : List ℕ} (is : ListingIs s before r after) (room : listingRoom ≤ length before) where
   said : r ≡ listedOf s (length (listingOf s))
   said = is .answer ∙ same-answer s (length before) room
 
-  -- The listing, which stands at the front of the page.
-  pub listing-printed : r .refusal ≡ accepted → AtFront (printedOf s) after (r .size)
+  -- The listing.
+  pub listing-printed : r .refusal ≡ accepted → Printed s before after (r .size)
   unfolding printedOf bufferAfter
   listing-printed none =
       let whole = whole-size s (length before) (rw (is .answer) at none) in
       let size : r .size ≡ length (listingOf s) = ap (λ (x : Listed). x .size) (is .answer) ∙ whole .0 in
       let page : after ≡ listingOf s ++ drop (length (listingOf s)) before
       = is .buffer ∙ rw (eq-eqb _ _ (rw (is .answer) at none)) in
-      rw (eq-eqb _ _ (rw said at none), size, page)
-      (record {
-        within = rw length-append (omega arith);
-        size = refl;
-        bytes = take-at (listingOf s) (drop (length (listingOf s)) before) (length (listingOf s)) refl;
-      })
+      let text : printedOf s ≡ listingOf s = rw (eq-eqb _ _ (rw said at none)) in
+      (rw (text, size, page) (front-wrote (listingOf s) before (whole .1)), rw text (whole .1))
 
-  -- A refusal's line, once it is written there.
+  -- A refusal's line, once it is written there: writing the listing left the page as it was.
   pub refusal-printed : (r .refusal ≡ accepted → ⊥) → r .refusal < 2 ^ 64 → r .line < 2 ^ 64
-      → {last : List ℕ} {end : ℕ} → listingRoom ≤ length after → Wrote after 0 (refusalLine (r .refusal) (r .line)) last end
-      → AtFront (printedOf s) last end
-  unfolding printedOf
-  refusal-printed some number line {last} {end} wide wrote =
-      rw (ne-eqb _ _ (λ none. some (ap (λ (x : Listed). x .refusal) said ∙ none)), ← said)
-      (wrote-front wrote (omega (arith, refusal-line-length (r .refusal) (r .line) number line)))
+      → {last : List ℕ} {end : ℕ} → Wrote after 0 (refusalLine (r .refusal) (r .line)) last end → Printed s before last end
+  unfolding printedOf bufferAfter
+  refusal-printed some number line {last} {end} wrote =
+      let kept : after ≡ before = is .buffer ∙ rw (ne-eqb _ _ (λ none. some (ap (λ (x : Listed). x .refusal) (is .answer) ∙ none))) in
+      let text : printedOf s ≡ refusalLine (r .refusal) (r .line)
+      = rw (ne-eqb _ _ (λ none. some (ap (λ (x : Listed). x .refusal) said ∙ none)), ← said) in
+      (rw (text, ← kept) wrote, rw text (omega (arith, refusal-line-length (r .refusal) (r .line) number line)))

@@ -6,15 +6,17 @@ use apportionment::refusals;
 use fields::cut;
 use register::Reading;
 ghost use mathlib.Core.Path.{_≡_};
+ghost use Prim.Native.Nat.{_≤_};
 ghost use lib.ListN.{length};
-ghost use Rattle.text.specs.Writing.{Wrote, AtFront};
+ghost use Rattle.text.specs.Writing.{Wrote};
 ghost use Rattle.listing.specs.Listing.{listingIn, refused, ListingIs, printedOf};
 ghost use Rattle.listing.specs.Rows.{namesFrom};
 ghost use Rattle.listing.specs.Room.{AllListable};
 ghost use Rattle.listing.specs.Listed.{GoodReading, HandedOver};
 
-// Room for every listing there is; a listing is written there first, so that a buffer that is too short stays as it is.
-pub const LISTING_ROOM: usize = 32_768;
+// Room for every listing there is, as specs/Room.antt shows; a listing is written there first, so that a buffer that is too short stays as
+// it is. The numbers are the longest head, the longest line of a state and the longest line of totals.
+pub const LISTING_ROOM: usize = 30 + STATE_LIMIT * 64 + 22;
 
 // What writing a listing answers: a refusal's number and line, or 0, 0 and the listing's length.
 pub struct Listed {
@@ -100,9 +102,10 @@ pub fn write_listing(register: &[u8], out: &mut [u8]) -> Listed
     list_states(register, reading, &mut seats[..n], out)
 }
 
-// What the allotment program prints: the listing, or a refusal's one line.
+// What the allotment program prints: the listing, or a refusal's one line. The page has room for either, and keeps its bytes after it.
 pub fn print(register: &[u8], page: &mut [u8; LISTING_ROOM]) -> usize
-    ensures { λ r. ⌜ AtFront (printedOf (now (register .entry))) (now (page .exit)) r ⌝ }
+    ensures wrote { λ r. ⌜ Wrote (now (page .entry)) 0 (printedOf (now (register .entry))) (now (page .exit)) r ⌝ }
+    ensures fits { λ _. ⌜ length (printedOf (now (register .entry))) ≤ length (now (page .entry)) ⌝ }
 {
     let listed = write_listing(register, &mut page[..]);
     if listed.refusal == refusals::ACCEPTED {

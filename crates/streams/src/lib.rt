@@ -1,10 +1,11 @@
 // Registers in and text out, for the programs that people run. What the system cannot hand over or take is told on standard error.
+use apportionment::REGISTER_LIMIT;
 use libc::STDIN_FILENO;
 use libc::STDOUT_FILENO;
 ghost use Rattle.io.specs.Counts.{Counts};
 
 // Room for a register and one byte more, so that a longer input is told from one that just fits.
-pub const REGISTER_ROOM: usize = 65_537;
+pub const REGISTER_ROOM: usize = REGISTER_LIMIT + 1;
 
 // What was read: its length, and whether that is all there was, as far as there is room for it.
 pub struct Input {
@@ -12,23 +13,34 @@ pub struct Input {
     pub length: usize,
 }
 
-// Sets errno to 0, as asking for the program's own name does: a read that fails sets it, and one that only comes to the end does not.
-fn forget_errors() {
-    let mut name = io::buffer();
-    os::arg(0, &mut name);
-}
-
-// Reads what a descriptor gives, in however many pieces it comes.
+// Reads what a descriptor gives, in however many pieces it comes, until the buffer is full or the input ends. The system's own answer tells a
+// read that failed from the end of the input, and what was read before it failed is not taken for the whole.
 fn read_from(fd: i32, source: &[u8], bytes: &mut [u8]) -> Input
     ensures { λ r. ⌜ Counts (r .length) (now (bytes .exit)) ⌝ }
 {
-    forget_errors();
-    let length = io::read_full(fd, bytes);
-    let whole = os::errno() == 0;
-    if !whole {
-        os::fail(source);
+    let mut length = 0;
+    while length < bytes.len() {
+        let got = libc::read(fd, &mut bytes[length..]);
+        if got < 0 {
+            os::fail(source);
+            return Input {
+                whole: false,
+                length,
+            };
+        }
+        let more = io::count(got, &bytes[length..]);
+        if more == 0 {
+            return Input {
+                whole: true,
+                length,
+            };
+        }
+        length += more;
     }
-    Input { whole, length }
+    Input {
+        whole: true,
+        length,
+    }
 }
 
 // Reads standard input.
@@ -38,12 +50,19 @@ pub fn read_standard_input(bytes: &mut [u8]) -> Input
     read_from(STDIN_FILENO, b"standard input", bytes)
 }
 
-// Reads the file that an argument of the program names.
+// Reads the file that an argument of the program names. One that is too long to be a path is told as such.
 pub fn read_argument(argument: usize, bytes: &mut [u8]) -> Input
     ensures { λ r. ⌜ Counts (r .length) (now (bytes .exit)) ⌝ }
 {
     let mut path = io::buffer();
     let size = os::arg(argument, &mut path);
+    if os::errno() != 0 {
+        os::fail(b"the argument");
+        return Input {
+            whole: false,
+            length: 0,
+        };
+    }
     let fd = os::open_read(&path[..size]);
     if fd < 0 {
         os::fail(&path[..size]);
@@ -57,9 +76,12 @@ pub fn read_argument(argument: usize, bytes: &mut [u8]) -> Input
     input
 }
 
-// Writes text to standard output.
-pub fn print(text: &[u8]) {
-    if !io::write_all(STDOUT_FILENO, text) {
-        os::fail(b"standard output");
+// Writes text to standard output, and says whether it was taken. A caller that has more to write stops where it was not, so that the error
+// is told once.
+pub fn print(text: &[u8]) -> bool {
+    if io::write_all(STDOUT_FILENO, text) {
+        return true;
     }
+    os::fail(b"standard output");
+    false
 }

@@ -8,7 +8,7 @@ use borrow.Author.Tests.{ltb-true, ltb-false}
 use lib.Dec.{ltb}
 use lib.IntN.{ℤ, pos, negsuc, natAbs}
 use lib.ListN.{length, length-append}
-use Rattle.apportionment.specs.Limits.{sumLimit}
+use Rattle.apportionment.specs.Limits.{stateLimit, houseLimit, sumLimit}
 use Rattle.apportionment.specs.Text.{decimal}
 use Rattle.apportionment.specs.Quantities.{hundredthsText, shownText, markText}
 use Rattle.apportionment.specs.declared.Mark.{Mark}
@@ -34,20 +34,20 @@ decimal-length (suc k) n bound = by-size (ltb n 10) refl (λ large. decimal-leng
 pub decimal-of-u64 : (n : ℕ) → n < 2 ^ 64 → length (decimal n) ≤ 20
 decimal-of-u64 n bound = decimal-length 19 n (omega arith)
 
--- A population, or a sum of them, has at most 10 digits.
+-- A population, or a sum of them, has at most 10 digits, a house or seats 4, and a number of states 3.
 pub decimal-of-sum : (n : ℕ) → n ≤ sumLimit → length (decimal n) ≤ 10
 decimal-of-sum n bound = decimal-length 9 n (omega arith)
+
+pub decimal-of-house : (n : ℕ) → n ≤ houseLimit → length (decimal n) ≤ 4
+decimal-of-house n bound = decimal-length 3 n (omega arith)
+
+pub decimal-of-states : (n : ℕ) → n ≤ stateLimit → length (decimal n) ≤ 3
+decimal-of-states n bound = decimal-length 2 n (omega arith)
 
 -- Hundredths have their whole part, a point and two digits.
 pub hundredths-length : (h : ℕ) → length (hundredthsText h) ≡ length (decimal (h / 100)) + 3
 unfolding hundredthsText
 hundredths-length h = simp length-append (omega arith)
-
--- A shown departure whose size is below 10 ^ (k + 1) per cent.
-pub shown-length : (k : ℕ) (shown : ℤ) → natAbs shown < 100 * 10 ^ suc k → length (shownText shown) ≤ suc k + 4
-unfolding shownText
-shown-length k (pos h) bound = omega (arith, hundredths-length h, decimal-length k (h / 100) (omega arith))
-shown-length k (negsuc h) bound = omega (arith, hundredths-length (h + 1), decimal-length k ((h + 1) / 100) (omega arith))
 
 -- A mark's word, and a method's.
 pub mark-length : (mark : Mark) → length (markText mark) ≤ 4
@@ -72,11 +72,11 @@ pub numbers-length : {k l : ℕ} (x y : ℕ) → length (decimal x) ≤ k → le
 unfolding numbersText
 numbers-length x y few some = simp length-append (omega arith)
 
--- The line of totals has at most 38 bytes, and a refusal's 50.
-pub total-line-length : (P allotted : ℕ) → P ≤ sumLimit → allotted < 2 ^ 64 → length (totalLine P allotted) ≤ 38
+-- The line of totals and a refusal's, each with its numbers' own bounds.
+pub total-line-length : {k l : ℕ} (P allotted : ℕ) → length (decimal P) ≤ k → length (decimal allotted) ≤ l
+    → length (totalLine P allotted) ≤ k + l + 8
 unfolding totalLine
-total-line-length P allotted limited seats =
-    simp length-append (omega (arith, numbers-length P allotted (decimal-of-sum P limited) (decimal-of-u64 allotted seats)))
+total-line-length P allotted few some = simp length-append (omega (arith, numbers-length P allotted few some))
 
 pub refusal-line-length : (n l : ℕ) → n < 2 ^ 64 → l < 2 ^ 64 → length (refusalLine n l) ≤ 50
 unfolding refusalLine

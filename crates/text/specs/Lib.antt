@@ -3,3 +3,4 @@ pub mod Writing
 pub mod Shared
 pub mod Decimal
 pub mod Bounds
+pub mod ShownRoom

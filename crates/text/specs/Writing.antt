@@ -134,3 +134,8 @@ wrote-front {a} {b} {s} {next} w fits =
 pub wrote-copied : {a b s : List ℕ} {next : ℕ} → Wrote a 0 s b next → length s ≤ length a → b ≡ copiedOut s a
 unfolding copiedOut
 wrote-copied {a} {b} {s} w fits = wrote-fits w (omega arith) .1 ∙ rw (zero-add, le-leb (length s) (length a) fits)
+
+-- A text that stands at the front of a buffer, with the rest as it was, was written there.
+pub front-wrote : (s a : List ℕ) → length s ≤ length a → Wrote a 0 s (s ++ drop (length s) a) (length s)
+unfolding laid placeAfter
+front-wrote s a fits = record { bytes = sym (sets-eq s a 0 (omega arith) ∙ rw zero-add); place = omega arith }

@@ -1,8 +1,9 @@
--- `allotment::print_listing` is safe: what is printed is within the page.
+-- `allotment::print_listing` is safe: the page has room for what is printed.
 -- Assumes nothing.
 use mathlib.Core.Path.{sym}
 use lib.Seq.{length-take-le}
 use borrow.Author.Needs.{needs}
+use Rattle.text.specs.Writing.{wrote-front}
 use Rattle.allotment.proofs.print_listing.Statement.{statement}
 use Rattle.allotment.proofs.print_listing.Tie as tie
 
@@ -10,10 +11,10 @@ print-requires : tie.Need-print-requires
 print-requires c κs = search needs
 
 array-share-prefix-page : tie.Need-array-share-prefix-page
-array-share-prefix-page c = search needs
+array-share-prefix-page c = wrote-front (c .print .ensures .0) (c .print .ensures .1) .within
 
 slice-aggregate-print : tie.Need-slice-aggregate-print
-slice-aggregate-print c = sym (length-take-le _ _ (c .before .print .ensures .within))
+slice-aggregate-print c = sym (length-take-le _ _ (wrote-front (c .before .print .ensures .0) (c .before .print .ensures .1) .within))
 
 print-requires-2 : tie.Need-print-requires-2
 print-requires-2 c κs = search needs

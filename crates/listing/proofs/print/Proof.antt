@@ -19,8 +19,7 @@ returns-2 : tie.Need-returns-2
 returns-2 c =
     refusal-printed
     (c .before .before .before .before .write-listing .ensures) (search needs) (c .before .before .if1 .left) (search needs)
-    (omega (arith, c .before .before .before .struct-known .given))
-    (omega (arith, c .before .before .before .before .write-listing .kept .1 .0)) (c .put-refusal .ensures)
+    (omega (arith, c .before .before .before .struct-known .given)) (c .put-refusal .ensures)
 
 pub print-spec : {M : Type 1} → statement M
 print-spec = tie.close (tie.spec write-listing-requires returns put-refusal-requires returns-2)
