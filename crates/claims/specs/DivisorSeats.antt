@@ -1,5 +1,5 @@
--- The claims met in order are the seats that stand, so seats that stand and sum to the house are the method's allotment; and no state's
--- seats pass the house by more than one on the way.
+-- The claims met in order are the seats that stand, so seats that stand and sum to the house are the method's allotment; and rounding for
+-- a house gives no state more than one seat above it, which withdrawing never adds to.
 -- Assumes nothing.
 use mathlib.Core.Path.{_≡_, refl, sym, ap, _∙_}
 use mathlib.Core.Bool.{Bool, true, false, cond}

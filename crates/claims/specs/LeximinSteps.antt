@@ -27,7 +27,7 @@ use Rattle.claims.specs.SizeClaims.{sizeTest, oneEach, Sound}
 use Rattle.claims.specs.SizeOrder.{size-order}
 use Rattle.claims.specs.Optimal.{standing-leximin}
 use Rattle.claims.specs.StartSeats.{start-standing}
-use Rattle.claims.specs.StartBounds.{states-at-most-start}
+use Rattle.claims.specs.StartBounds.{states-at-most-standing, states-at-most-start}
 
 -- One step from seats xs.
 unfoldable pub lexStep : (ps : List ℕ) (H : ℕ) → List ℕ → List ℕ
@@ -105,6 +105,10 @@ module _ {ps : List ℕ} {H : ℕ} (s : Sound ps H) (fits : length ps ≤ H) whe
           rw e (sum-placedTimes (length ps) (sizeTest ps H) (startSeats ps H) m (s .someState) (start-standing s .states))
       by-direction false e =
           rw e (omega (arith, sum-withdrawnTimes (length ps) oneEach (sizeTest ps H) (size-order s) (startSeats ps H) m (s .someState) (start-standing s .states) (enough m h e)))
+
+  -- Each total passed has a seat for each state.
+  pub states-at-most-passed : (m : ℕ) → m ≤ gap ps H → length ps ≤ totalAfter ps H m
+  states-at-most-passed m h = rw (← moved-total m h) (states-at-most-standing (moved-standing m h))
 
   -- The seats after m steps are the leximin allotment for their total.
   pub moved-leximin : (m : ℕ) → m ≤ gap ps H → lexMoved ps H m ≡ leximinFor ps H (totalAfter ps H m)

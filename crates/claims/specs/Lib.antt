@@ -22,4 +22,5 @@ pub mod Weights
 pub mod Allotments
 pub mod Prices
 pub mod Optimal
+pub mod LeastOfAll
 pub mod LeximinSteps

@@ -1,5 +1,5 @@
--- Seats that stand in leximin's order of claims are the leximin allotment for their total: sizes are weighed so that lists compare as sums of
--- weights, and the sum is least where seats stand.
+-- Seats that stand in leximin's order of claims have the least list of all with their total, and are the leximin allotment for it: sizes
+-- are weighed so that lists compare as sums of weights, and the sum is least where seats stand.
 -- Assumes nothing.
 use mathlib.Core.Path.{_≡_, refl, sym, _∙_, ap}
 use mathlib.Core.Bool.{Bool, true, false, cond, false≢true}
@@ -81,9 +81,14 @@ module _ (P H : ℕ) where
 
 -- ---- sizes weighed
 
--- The weight of a size at up to `most` seats: so far apart that all states' smaller sizes together weigh less than one larger.
+-- How many times a size outweighs a smaller one: more than there are states, so that one larger size outweighs a smaller one of every state
+-- (`sorted-order`), and 3 at least, so that claims are in the order of what they add (`move-order`). n + 3 is both, whatever n is.
+abbrev base : List ℕ → ℕ
+base ps = length ps + 3
+
+-- The weight of a size at up to `most` seats.
 abbrev sizeWeight : (ps : List ℕ) (most : ℕ) → Fraction → ℕ
-sizeWeight ps most = weight (length ps + 3) (factorial most * sum ps)
+sizeWeight ps most = weight (base ps) (factorial most * sum ps)
 
 -- The weight of state i's size at a seats.
 abbrev stateWeight : (ps : List ℕ) (H most i a : ℕ) → ℕ
@@ -93,8 +98,8 @@ module _ (ps : List ℕ) (H most : ℕ) (sound : Sound ps H) where
   abbrev C : ℕ
   C = factorial most * sum ps
 
-  weighing : Weighing (length ps + 3) (Over C) (sizeWeight ps most)
-  weighing = powers-weigh (length ps + 3) C (omega arith) (mul-pos (factorial-pos most) (people sound))
+  weighing : Weighing (base ps) (Over C) (sizeWeight ps most)
+  weighing = powers-weigh (base ps) C (omega arith) (mul-pos (factorial-pos most) (people sound))
 
   -- Leximin's claims are ordered by what they add to the weight.
   by-weight : ByCost most (stateWeight ps H most) (sizeTest ps H)
@@ -125,7 +130,7 @@ module _ (ps : List ℕ) (H most : ℕ) (sound : Sound ps H) where
         let ly = length-sizes (sum ps) H ps ys (hy .states) in
         let lz = length-sizes (sum ps) H ps zs (hz .states) in
         rw (← total-sizes (sum ps) H (sizeWeight ps most) ps ys (hy .states), ← total-sizes (sum ps) H (sizeWeight ps most) ps zs (hz .states))
-        (sorted-order (length ps + 3) (Over C) (sizeWeight ps most) weighing (omega arith)
+        (sorted-order (base ps) (Over C) (sizeWeight ps most) weighing (omega arith)
         (sizesOf (sum ps) H ps ys) (sizesOf (sum ps) H ps zs)
         (ly ∙ sym lz) (omega arith) (sizes-over ys hy) (sizes-over zs hz))
 
@@ -138,7 +143,7 @@ module _ (ps : List ℕ) (H : ℕ) (sound : Sound ps H) (xs : List ℕ) (standin
   abbrev cost : List ℕ → ℕ
   cost = costOf (length ps) (stateWeight ps H most)
 
-  own-allotment : Allotment (length ps) (sum xs) xs
+  pub own-allotment : Allotment (length ps) (sum xs) xs
   own-allotment = record { states = standing .states; each = standing .least; whole = refl }
 
   module _ (ys : List ℕ) (other : Allotment (length ps) (sum xs) ys) where
@@ -155,10 +160,11 @@ module _ (ps : List ℕ) (H : ℕ) (sound : Sound ps H) (xs : List ℕ) (standin
     less-by-weight : listLess (sizeList ps H xs) (sizeList ps H ys) ≡ ltb (cost xs) (cost ys)
     less-by-weight = lists-by-weight ps H most sound (sum xs) (omega arith) xs ys own-allotment other
 
-    never-less : listLess (sizeList ps H ys) (sizeList ps H xs) ≡ false
+    -- No other has a list less than theirs.
+    pub never-less : listLess (sizeList ps H ys) (sizeList ps H xs) ≡ false
     never-less = lists-by-weight ps H most sound (sum xs) (omega arith) ys xs other own-allotment ∙ le-ltb (cost ys) (cost xs) weighs-least
 
-    -- No other is chosen before them, and they are chosen before every other.
+    -- No other is chosen before them.
     not-chosen : chosenBefore ps H ys xs ≡ false
     unfolding chosenBefore
     not-chosen =
@@ -167,7 +173,8 @@ module _ (ps : List ℕ) (H : ℕ) (sound : Sound ps H) (xs : List ℕ) (standin
         (λ _. refl)
         (λ e. ⊎-elim (λ (same : xs ≡ ys). rw (← same) (more-irreflexive xs)) (more-asymmetric xs ys) (wins-ties e)))
 
-    chosen : (ys ≡ xs) ⊎ (chosenBefore ps H xs ys ≡ true)
+    -- They are chosen before every other.
+    pub chosen : (ys ≡ xs) ⊎ (chosenBefore ps H xs ys ≡ true)
     unfolding chosenBefore
     chosen =
         rw (never-less, less-by-weight)

@@ -297,7 +297,8 @@ module _ (n : ℕ) (lo : ℕ → ℕ) (lt : ClaimTest) (order : ClaimOrder n lo 
       sum-oneLess xs (lastMet lo lt n xs) (rw states (lastMet-lt n lo lt xs some)) (omega (arith, lastMet-above xs some states more))
 
   -- Withdrawing the last claim met keeps seats standing, as long as some state is above its fewest.
-  pub withdrawn-standing : (xs : List ℕ) → 0 < n → Standing n lo lt xs → sum (listOf lo n) < sum xs → Standing n lo lt (withdrawn lo lt n xs)
+  pub withdrawn-standing : (xs : List ℕ) → 0 < n → Standing n lo lt xs → sum (listOf lo n) < sum xs
+      → Standing n lo lt (withdrawn lo lt n xs)
   unfolding withdrawn
   withdrawn-standing xs some s more =
       oneLess-standing xs (lastMet lo lt n xs) s (lastMet-lt n lo lt xs some) (lastMet-above xs some (s .states) more)

@@ -34,7 +34,7 @@ module _ (f : ℕ → ℕ) (P H : ℕ) where
   sums-above (x ∷ xs) h =
       omega (arith, h 0 (suc-le-suc zero-le), sums-above xs (λ (i : ℕ) (k : i < length xs). h (suc i) (suc-le-suc k)))
 
--- Standing seats, one for each state, are as many as the states.
+-- Standing seats, at least one for each state, are no fewer than the states.
 pub states-at-most-standing : {n : ℕ} {lt : ClaimTest} {xs : List ℕ} → Standing n oneEach lt xs → n ≤ sum xs
 states-at-most-standing {n} {xs = xs} t =
     rw (sum-listOf-one n) at

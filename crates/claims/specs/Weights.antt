@@ -240,7 +240,7 @@ module _ (W : ℕ) (O : Fraction → Type 0) (w : Fraction → ℕ) (weighing : 
   sorted-descends [] os = tt
   sorted-descends (s ∷ ss) os = insert-descends s (largestFirst ss) (os .0) (every-sorted O ss (os .1)) (sorted-descends ss (os .1))
 
-  -- A list whose first size is less weighs less, however much more the others of the second weigh.
+  -- A list, largest first, whose first size is less than t weighs less than t alone.
   first-less : (s t : Fraction) (ss : List Fraction) → suc (length ss) < W → O s → O t → Descending w (s ∷ ss) → less s t ≡ true
       → total w (s ∷ ss) < w t
   unfolding total

@@ -1,2 +1,2 @@
 // The theory layer: one account of claims that leximin and the five divisor methods share. It has no code; the crates that
-// place and withdraw seats cite its theorems, which are about the definitions of `apportionment` alone.
+// place and withdraw seats cite its theorems, which are about definitions alone: those of `apportionment` and its own.

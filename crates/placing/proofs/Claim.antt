@@ -1,6 +1,7 @@
--- Demand 3, whole: one claim about a list of stepping calls of any length, none included, that starts from the placing which an opening
--- that was not refused handed back; each call gets the placing that the last one handed back, refused or not. It is about the contracts of
--- opening and stepping themselves, as `Reads` has them, so that a weaker contract of either breaks it.
+-- Demand 3, whole (`demand`): one claim about a list of stepping calls of any length, none included, that starts from the placing which an
+-- opening that was not refused handed back; each call gets the placing that the last one handed back, refused or not. It is about the
+-- contracts of opening and stepping themselves, as `Reads` has them, so that a weaker contract of either breaks it. Beside it stands what
+-- the claim's word leximin means of the seats standing (`standing-least-of-all`): no allotment of their total has a lesser list.
 -- Assumes nothing.
 use mathlib.Core.Path.{_≡_, refl, sym, _∙_, ap}
 use mathlib.Core.Bool.{Bool, true, false, cond}
@@ -9,7 +10,7 @@ use Prim.Native.Nat.{ℕ, zero, suc, _+_, _-_, _<_, _≤_, min}
 use native.Mathlib.Omega.{arith}
 use native.Mathlib.Nat.{not-suc-le-zero, le-of-suc-le-suc, le-antisymm, zero-add}
 use lib.Dec.{ltb, eqb}
-use lib.ListN.{length}
+use lib.ListN.{length, take}
 use borrow.Author.Tests.{ltb-true, ltb-false, eqb-true, eqb-false}
 use contract.Lifetimes.{Lfts}
 use denote.Ref.{now}
@@ -18,10 +19,13 @@ use borrow.Fn.Kinds.{Dens, endedOf}
 use Rattle.apportionment.specs.Refusals.{accepted, houseReached}
 use Rattle.apportionment.specs.Leximin.{leximinFor, startTotal, gap, totalAfter}
 use Rattle.claims.specs.StartBounds.{gap-below-states}
+use Rattle.claims.specs.LeximinSteps.{states-at-most-passed}
+use Rattle.claims.specs.LeastOfAll.{LeastOfAll, leximin-least-of-all}
 use Rattle.problem.specs.Opening.{openRefusal}
 use Rattle.problem.specs.Passed.{open-passed}
 use Rattle.leximin.specs.Start.{ready-sound}
 use Rattle.placing.specs.Placing.{padded, placingAt, started, openedOf, steppedOf, refusedWith}
+use Rattle.placing.specs.Lists.{take-padded}
 use Rattle.placing.specs.Telling.{opened-ready}
 use Rattle.placing.specs.Walk.{start-is-first, step-before-house, step-at-house}
 use Rattle.placing.specs.declared.Placing.{Placing}
@@ -30,7 +34,20 @@ use Rattle.placing.proofs.Placing.step.Reads as step-reads
 use Rattle.placing.proofs.Placing.open.Reads as open-reads
 use Rattle.placing.proofs.Placing.open.Kinds as open-kinds
 
--- ---- a list of calls
+-- ---- opening, and a list of calls
+
+-- One call of opening that was not refused: by its contract, given the populations ps and the house H, it handed back r.
+pub record Opened (ps : List ℕ) (H : ℕ) (r : Placed) : Type 0 where
+  -- The call as its contract has it: for how long the populations are lent, what is given, and what stands there at the end.
+  pub lasting : Lfts 1
+  pub given : Dens lasting open-kinds.ps
+  pub ended : AtExit (endedOf 1 open-kinds.ps open-kinds.r) lasting
+  -- It was given ps and H.
+  pub populations : now (given .0) ≡ ps
+  pub house : given .1 .0 ≡ H
+  -- Its contract holds, and r is not a refusal.
+  pub contract : open-reads.Post lasting given r ended
+  pub accepts : r .refusal ≡ accepted
 
 -- One call of stepping: what its contract says of the placing handed in and of what is handed back.
 abbrev pub Stepped : Placing → Placed → Type 0
@@ -80,7 +97,8 @@ module _ (ps : List ℕ) (H : ℕ) (opens : openRefusal ps H ≡ accepted) where
     stands : (i : ℕ) → i < length rs → gap ps H ≤ m + i → refusalAt rs i ≡ houseReached
 
   -- One call more, in front: it is not refused while a step is left.
-  led-by-move : {m : ℕ} {r : Placed} {rs : List Placed} {p : Placing} → m < gap ps H → r .refusal ≡ accepted → Led (suc m) rs p → Led m (r ∷ rs) p
+  led-by-move : {m : ℕ} {r : Placed} {rs : List Placed} {p : Placing} → m < gap ps H → r .refusal ≡ accepted
+      → Led (suc m) rs p → Led m (r ∷ rs) p
   unfolding refusalAt
   led-by-move {m} {r} {rs} {p} left accepts led =
       record { is = led .is ∙ ap (placingAt ps H) (omega arith); moves = moving; stands = standing-still }
@@ -94,7 +112,8 @@ module _ (ps : List ℕ) (H : ℕ) (opens : openRefusal ps H ≡ accepted) where
       standing-still (suc i) h l = led .stands i (le-of-suc-le-suc h) (omega arith)
 
   -- It is refused 20 once the house is reached.
-  led-by-standing : {m : ℕ} {r : Placed} {rs : List Placed} {p : Placing} → m ≡ gap ps H → r .refusal ≡ houseReached → Led m rs p → Led m (r ∷ rs) p
+  led-by-standing : {m : ℕ} {r : Placed} {rs : List Placed} {p : Placing} → m ≡ gap ps H → r .refusal ≡ houseReached
+      → Led m rs p → Led m (r ∷ rs) p
   unfolding refusalAt
   led-by-standing {m} {r} {rs} {p} there refuses led =
       record { is = led .is ∙ ap (placingAt ps H) (omega arith); moves = moving; stands = standing-still }
@@ -139,19 +158,22 @@ module _ (ps : List ℕ) (H : ℕ) (opens : openRefusal ps H ≡ accepted) where
 -- ---- the claim
 
 -- An opening that was not refused opens.
-not-refused : (ps : List ℕ) (H : ℕ) (r : Placed) → r ≡ openedOf ps H → r .refusal ≡ accepted
-    → (openRefusal ps H ≡ accepted) × (r .placing ≡ started ps H)
+not-refused : {ps : List ℕ} {H : ℕ} {r : Placed} → Opened ps H r → (openRefusal ps H ≡ accepted) × (r .placing ≡ started ps H)
 unfolding openedOf
-not-refused ps H r e accepts = by-refusal (eqb (openRefusal ps H) accepted) refl
+not-refused {ps} {H} {r} opened = by-refusal (eqb (openRefusal ps H) accepted) refl
   where
+    handed : r ≡ openedOf ps H
+    handed = rw (opened .populations, opened .house) at (opened .contract)
+
     by-refusal : (t : Bool) → eqb (openRefusal ps H) accepted ≡ t → (openRefusal ps H ≡ accepted) × (r .placing ≡ started ps H)
     by-refusal true t =
-        (eqb-true _ _ t, ap (λ (x : Placed). x .placing) (rw t at e))
+        (eqb-true _ _ t, ap (λ (x : Placed). x .placing) (rw t at handed))
     by-refusal false t =
-        let refuses : openRefusal ps H ≡ accepted = sym (ap (λ (x : Placed). x .refusal) (rw t at e)) ∙ accepts in
+        let refuses : openRefusal ps H ≡ accepted = sym (ap (λ (x : Placed). x .refusal) (rw t at handed)) ∙ opened .accepts in
         absurd (eqb-false _ _ t refuses)
 
-led-claimed : (ps : List ℕ) (H : ℕ) (opens : openRefusal ps H ≡ accepted) {rs : List Placed} {p : Placing} → Led ps H opens 0 rs p → Claimed ps H rs p
+led-claimed : (ps : List ℕ) (H : ℕ) (opens : openRefusal ps H ≡ accepted) {rs : List Placed} {p : Placing}
+    → Led ps H opens 0 rs p → Claimed ps H rs p
 unfolding placingAt totalAfter
 led-claimed ps H opens {rs} {p} led =
     let m : ℕ = min (length rs) (gap ps H) in
@@ -168,10 +190,29 @@ led-claimed ps H opens {rs} {p} led =
       near = gap-below-states (ready-sound (opened-ready (open-passed ps H opens)));
     }
 
--- Demand 3. Opening, by its contract, handed back r without a refusal; stepping, by its contract, handed back rs in a row from there.
-pub demand : (κs : Lfts 1) (a : Dens κs open-kinds.ps) (r : Placed) (s : AtExit (endedOf 1 open-kinds.ps open-kinds.r) κs) → open-reads.Post κs a r s → r .refusal ≡ accepted
-    → (rs : List Placed) → Calls (r .placing) rs → Claimed (now (a .0)) (a .1 .0) rs (standing (r .placing) rs)
-demand κs a r s opened accepts rs calls =
-    let start = not-refused (now (a .0)) (a .1 .0) r opened accepts in
-    led-claimed (now (a .0)) (a .1 .0) (start .0)
-    (calls-lead (now (a .0)) (a .1 .0) (start .0) (omega arith) (start .1 ∙ start-is-first (now (a .0)) (a .1 .0) (start .0)) calls)
+-- Demand 3: an opening that was not refused handed back r, and calls of stepping in a row from there handed back rs.
+pub demand : {ps : List ℕ} {H : ℕ} {r : Placed} → Opened ps H r → (rs : List Placed) → Calls (r .placing) rs
+    → Claimed ps H rs (standing (r .placing) rs)
+demand {ps} {H} {r} opened rs calls =
+    let start = not-refused opened in
+    led-claimed ps H (start .0) (calls-lead ps H (start .0) (omega arith) (start .1 ∙ start-is-first ps H (start .0)) calls)
+
+-- ---- least of all
+
+-- The seats of a placing's states, without the 0 past them.
+unfoldable pub ownSeats : Placing → List ℕ
+ownSeats p = take (p .states) (p .seats)
+
+-- Whatever calls were made, the seats standing have the least list of all with their total and, where several have it, more seats at the
+-- first state where they differ: what document 01 means by the leximin allotment.
+pub standing-least-of-all : {ps : List ℕ} {H : ℕ} {r : Placed} → Opened ps H r → (rs : List Placed) → Calls (r .placing) rs
+    → let p = standing (r .placing) rs in LeastOfAll ps H (p .total) (ownSeats p)
+unfolding ownSeats totalAfter
+standing-least-of-all {ps} {H} {r} opened rs calls =
+    let p = standing (r .placing) rs in
+    let claimed = demand opened rs calls in
+    let o = open-passed ps H (not-refused opened .0) in
+    let sound = ready-sound (opened-ready o) in
+    let few : p .steps ≤ gap ps H = omega (arith, claimed .steps) in
+    let least = leximin-least-of-all sound (p .total) (rw (claimed .total) (states-at-most-passed sound (o .seatForEach) (p .steps) few)) in
+    rw (claimed .states, claimed .seats, ← least .allotted .states, take-padded) least

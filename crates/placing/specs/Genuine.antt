@@ -61,19 +61,22 @@ module _ (ps : List ℕ) (H begun : ℕ) (start : begun ≡ startTotal ps H) (to
 -- ---- the seats
 
 -- Each place of a list that passes is within the limit.
-each-within-at : (limit : ℕ) (xs : List ℕ) → eachWithin limit xs ≡ true → (i : ℕ) → i < length xs → (1 ≤ getD xs i 0) × (getD xs i 0 ≤ limit)
+each-within-at : (limit : ℕ) (xs : List ℕ) → eachWithin limit xs ≡ true → (i : ℕ) → i < length xs
+    → (1 ≤ getD xs i 0) × (getD xs i 0 ≤ limit)
 unfolding eachWithin
 each-within-at limit [] e i h = absurd (not-suc-le-zero h)
 each-within-at limit (x ∷ xs) e i h = by-head (within limit x) refl (each-within-at limit xs) i h
   where
-    by-head : (t : Bool) → within limit x ≡ t → (eachWithin limit xs ≡ true → (k : ℕ) → k < length xs → (1 ≤ getD xs k 0) × (getD xs k 0 ≤ limit))
+    by-head : (t : Bool) → within limit x ≡ t
+        → (eachWithin limit xs ≡ true → (k : ℕ) → k < length xs → (1 ≤ getD xs k 0) × (getD xs k 0 ≤ limit))
         → (k : ℕ) → k < length (x ∷ xs) → (1 ≤ getD (x ∷ xs) k 0) × (getD (x ∷ xs) k 0 ≤ limit)
     by-head true w rest zero l = within-bounds limit x w
     by-head true w rest (suc k) l = rest (rw w at e) k (le-of-suc-le-suc l)
     by-head false w rest k l = absurd (false≢true (rw w at e))
 
 -- Seats within the limit at each place pass.
-pub all-within : (limit : ℕ) (xs : List ℕ) → ((i : ℕ) → i < length xs → (1 ≤ getD xs i 0) × (getD xs i 0 ≤ limit)) → eachWithin limit xs ≡ true
+pub all-within : (limit : ℕ) (xs : List ℕ) → ((i : ℕ) → i < length xs → (1 ≤ getD xs i 0) × (getD xs i 0 ≤ limit))
+    → eachWithin limit xs ≡ true
 unfolding eachWithin
 all-within limit [] all = refl
 all-within limit (x ∷ xs) all =

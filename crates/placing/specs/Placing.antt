@@ -77,7 +77,7 @@ genuine p =
     && leb (p .steps) (gap (peopleOf p) (p .house))
     && samePlacing p (placingAt (peopleOf p) (p .house) (p .steps))
 
--- A placing handed back unaltered with a refusal.
+-- A placing handed back with a number: a refusal's, or 0.
 unfoldable pub refusedWith : ℕ → Placing → Placed
 refusedWith number p = record { refusal = number; placing = p }
 

@@ -65,7 +65,8 @@ module _ (ps : List ℕ) (H : ℕ) (opens : openRefusal ps H ≡ accepted) where
   unfolding totalAfter gap distance
   total-is-house m few = by-direction (ltb (startTotal ps H) H) refl (eqb m (gap ps H)) refl
     where
-      by-direction : (t : Bool) → ltb (startTotal ps H) H ≡ t → (u : Bool) → eqb m (gap ps H) ≡ u → eqb (totalAfter ps H m) H ≡ eqb m (gap ps H)
+      by-direction : (t : Bool) → ltb (startTotal ps H) H ≡ t → (u : Bool) → eqb m (gap ps H) ≡ u
+          → eqb (totalAfter ps H m) H ≡ eqb m (gap ps H)
       by-direction true e true u =
           rw (e, u) (eq-eqb (startTotal ps H + m) H (omega (arith, ltb-true (startTotal ps H) H e, eqb-true m (gap ps H) u)))
       by-direction true e false u =
@@ -76,7 +77,8 @@ module _ (ps : List ℕ) (H : ℕ) (opens : openRefusal ps H ≡ accepted) where
           rw (e, u) (ne-eqb (startTotal ps H - m) H (λ q. eqb-false m (gap ps H) u (omega (arith, ltb-false (startTotal ps H) H e, few, q))))
 
   -- A step before the house leads to the next placing, and is not refused.
-  pub step-before-house : (m : ℕ) → m < gap ps H → steppedOf (placingAt ps H m) ≡ record { refusal = accepted; placing = placingAt ps H (suc m) }
+  pub step-before-house : (m : ℕ) → m < gap ps H
+      → steppedOf (placingAt ps H m) ≡ record { refusal = accepted; placing = placingAt ps H (suc m) }
   unfolding steppedOf placingAt
   step-before-house m left =
       rw (facts-genuine (placingAt ps H m) (placed-genuine m (le-of-lt left)), at-house)

@@ -1,5 +1,5 @@
-// Whether a placing is one that opening and steps give: told in one pass over its states and no replay, since seats that stand in the
-// order of claims are fixed by their total.
+// Whether a placing is one that opening and steps give. No step is replayed, since seats that stand in the order of claims are fixed by
+// their total: eight passes over the states, and one over what each list holds past them, tell it however many steps were made.
 use crate::Placing;
 use crate::lists::each_within;
 use crate::lists::zeros_from;
