@@ -1,14 +1,16 @@
--- Document 01, "Operations and their refusals": the departure operation, and this paper's number and values of each answer.
+-- Document 01, "Operations and their refusals": the departure operation, this paper's number and values of each answer, and
+-- what the operation promises of its answer.
 -- Assumes nothing.
 use mathlib.Core.Path.{_≡_, refl}
 use mathlib.Core.Bool.{Bool, true, false, cond, _||_}
+use mathlib.Core.Logic.{_↔_}
 use mathlib.Core.Option.{Option, none, some}
 use Prim.Native.Nat.{ℕ, _*_, _<_, _≤_}
 use native.Mathlib.Nat.{mul-le-mul, mul-pos, le-trans, le-refl, pos-of-ne-zero}
 use native.Mathlib.Omega.{arith}
 use lib.Dec.{eqb, ltb}
 use lib.IntN.{ℤ}
-use borrow.Author.Tests.{eqb-false, ltb-false, eq-eqb, ne-eqb}
+use borrow.Author.Tests.{eqb-false, ltb-false, le-ltb, eq-eqb, ne-eqb}
 use Rattle.apportionment.specs.Limits.{houseLimit, sumLimit}
 use Rattle.apportionment.specs.Refusals.{accepted, departureOutOfLimits}
 use Rattle.apportionment.specs.Quantities.{distance, markOf, shownOf, sizeOf}
@@ -26,11 +28,19 @@ isOutside n most = eqb n 0 || ltb most n
 unfoldable pub isRefused : (p a P H : ℕ) → Bool
 isRefused p a P H = isOutside P sumLimit || (isOutside H houseLimit || (isOutside p P || ltb H a))
 
--- The answer of the departure operation.
-unfoldable pub departureOf : (p a P H : ℕ) → Answer
-departureOf p a P H =
-    let seated = Shown (shownOf p a P H) (markOf (sizeOf p a P H)) in
-    cond (isRefused p a P H) Refused (cond (eqb a 0) NoSeats seated)
+-- ---- the operation
+
+-- The refusal number: 30 exactly for what is refused, otherwise 0.
+unfoldable pub departureRefusal : (p a P H : ℕ) → ℕ
+departureRefusal p a P H = cond (isRefused p a P H) departureOutOfLimits accepted
+
+-- The shown departure in hundredths of a per cent: none where refused or without a seat.
+unfoldable pub departureShown : (p a P H : ℕ) → Option ℤ
+departureShown p a P H = cond (isRefused p a P H || eqb a 0) none (some (shownOf p a P H))
+
+-- The mark: none at all where refused, and the mark `none` with 0 seats.
+unfoldable pub departureMark : (p a P H : ℕ) → Option Mark
+departureMark p a P H = cond (isRefused p a P H) none (some (cond (eqb a 0) None (markOf (sizeOf p a P H))))
 
 -- ---- an answer in document 01's terms
 
@@ -52,33 +62,53 @@ markIn Refused = none
 markIn NoSeats = some None
 markIn (Shown hundredths mark) = some mark
 
--- The operation in these terms: 30 exactly for what is refused; otherwise no departure and the mark `none` without a seat,
--- and with seats the shown departure and the mark of the exact size.
-pub refused-exactly : (p a P H : ℕ) → numberOf (departureOf p a P H) ≡ cond (isRefused p a P H) departureOutOfLimits accepted
-unfolding numberOf departureOf
-refused-exactly p a P H = by (isRefused p a P H) (eqb a 0)
-  where
-    by : (t s : Bool)
-        → numberOf (cond t Refused (cond s NoSeats (Shown (shownOf p a P H) (markOf (sizeOf p a P H)))))
-        ≡ cond t departureOutOfLimits accepted
-    by true s = refl
-    by false true = refl
-    by false false = refl
+-- ---- what the operation promises
 
-module _ (p a P H : ℕ) (taken : isRefused p a P H ≡ false) where
-  pub none-without-seats : a ≡ 0 → (shownIn (departureOf p a P H) ≡ none) × (markIn (departureOf p a P H) ≡ some None)
-  unfolding departureOf shownIn markIn
-  none-without-seats e = (simp (taken, eq-eqb a 0 e), simp (taken, eq-eqb a 0 e))
+-- An answer has the operation's number, shown departure and mark.
+pub record AnswerIs (p a P H : ℕ) (answer : Answer) : Type 0 where
+  pub number : numberOf answer ≡ departureRefusal p a P H
+  pub shown : shownIn answer ≡ departureShown p a P H
+  pub mark : markIn answer ≡ departureMark p a P H
 
-  pub shown-with-seats :
-      (a ≡ 0 → ⊥)
-      → (shownIn (departureOf p a P H) ≡ some (shownOf p a P H))
-      × (markIn (departureOf p a P H) ≡ some (markOf (sizeOf p a P H)))
-  unfolding departureOf shownIn markIn
-  shown-with-seats e = (simp (taken, ne-eqb a 0 e), simp (taken, ne-eqb a 0 e))
+-- Answers with the same number, shown departure and mark are the same ..
+same-answer : (r s : Answer) → numberOf r ≡ numberOf s → shownIn r ≡ shownIn s → markIn r ≡ markIn s → r ≡ s
+unfolding numberOf shownIn markIn
+same-answer Refused Refused number shown mark = refl
+same-answer Refused NoSeats number shown mark = cc
+same-answer Refused (Shown h m) number shown mark = cc
+same-answer NoSeats Refused number shown mark = cc
+same-answer NoSeats NoSeats number shown mark = refl
+same-answer NoSeats (Shown h m) number shown mark = cc
+same-answer (Shown h m) Refused number shown mark = cc
+same-answer (Shown h m) NoSeats number shown mark = cc
+same-answer (Shown h m) (Shown k n) number shown mark = cc
 
--- ---- inputs that are not refused
+-- .. so the promise leaves one answer for each input.
+pub one-answer : (p a P H : ℕ) (r s : Answer) → AnswerIs p a P H r → AnswerIs p a P H s → r ≡ s
+one-answer p a P H r s first second = same-answer r s (cc) (cc) (cc)
 
+-- Which answer that is.
+module _ (p a P H : ℕ) where
+  pub refused-answer : isRefused p a P H ≡ true → AnswerIs p a P H Refused
+  unfolding numberOf shownIn markIn departureRefusal departureShown departureMark
+  refused-answer tested = record { number = simp tested; shown = simp tested; mark = simp tested }
+
+  pub unseated-answer : isRefused p a P H ≡ false → a ≡ 0 → AnswerIs p a P H NoSeats
+  unfolding numberOf shownIn markIn departureRefusal departureShown departureMark
+  unseated-answer tested unseated =
+      let bare = eq-eqb a 0 unseated in
+      record { number = simp tested; shown = simp (tested, bare); mark = simp (tested, bare) }
+
+  pub seated-answer : isRefused p a P H ≡ false → (a ≡ 0 → ⊥)
+      → AnswerIs p a P H (Shown (shownOf p a P H) (markOf (sizeOf p a P H)))
+  unfolding numberOf shownIn markIn departureRefusal departureShown departureMark
+  seated-answer tested seated =
+      let some-seat = ne-eqb a 0 seated in
+      record { number = simp tested; shown = simp (tested, some-seat); mark = simp (tested, some-seat) }
+
+-- ---- the limits
+
+-- P and H within their limits, p within 1 to P, and a at most H.
 pub record InLimits (p a P H : ℕ) : Type 0 where
   pub some-total : 0 < P
   pub total-limited : P ≤ sumLimit
@@ -115,6 +145,41 @@ not-refused p a P H e =
       people-within = inside p P (third .0) .1;
       seats-within = ltb-false H a (third .1);
     }
+
+-- What is within the limits is not refused.
+within-not-refused : (p a P H : ℕ) → InLimits p a P H → isRefused p a P H ≡ false
+unfolding isRefused isOutside
+within-not-refused p a P H within =
+    simp (
+      ne-eqb P 0 (omega arith),
+      le-ltb sumLimit P (within .total-limited),
+      ne-eqb H 0 (omega arith),
+      le-ltb houseLimit H (within .house-limited),
+      ne-eqb p 0 (omega arith),
+      le-ltb P p (within .people-within),
+      le-ltb H a (within .seats-within),
+    )
+
+-- So the refusal number is 0 exactly within the limits ..
+pub accepted-exactly : (p a P H : ℕ) → departureRefusal p a P H ≡ accepted ↔ InLimits p a P H
+unfolding departureRefusal
+accepted-exactly p a P H =
+    (λ e. not-refused p a P H (by (isRefused p a P H) e), λ within. simp (within-not-refused p a P H within))
+  where
+    by : (t : Bool) → cond t departureOutOfLimits accepted ≡ accepted → t ≡ false
+    by true e = cc
+    by false e = refl
+
+-- .. and 30 exactly outside them.
+pub refused-exactly : (p a P H : ℕ) → departureRefusal p a P H ≡ departureOutOfLimits ↔ (InLimits p a P H → ⊥)
+unfolding departureRefusal
+refused-exactly p a P H =
+    (λ e within. omega (arith, e, accepted-exactly p a P H .1 within), λ outside. by (isRefused p a P H) refl outside)
+  where
+    by : (t : Bool) → isRefused p a P H ≡ t → (InLimits p a P H → ⊥)
+        → cond t departureOutOfLimits accepted ≡ departureOutOfLimits
+    by true tested outside = refl
+    by false tested outside = absurd (outside (not-refused p a P H tested))
 
 -- The two products of a departure within the limits ..
 module _ {p a P H : ℕ} (within : InLimits p a P H) where

@@ -4,6 +4,7 @@
 use mathlib.Core.Path.{_≡_, refl}
 use mathlib.Core.Bool.{Bool, true, false, cond}
 use mathlib.Core.List.{List, [], _∷_, map}
+use mathlib.Core.Option.{Option}
 use Prim.Native.Nat.{ℕ, suc, _+_, _-_, _*_, _<_, _≤_}
 use native.Mathlib.Nat.{
   add-mul,
@@ -19,7 +20,7 @@ use native.Mathlib.Nat.{
 }
 use native.Mathlib.Numerals.{add-one}
 use native.Mathlib.Omega.{arith}
-use lib.IntN.{pos, negsuc, negℤ}
+use lib.IntN.{ℤ, pos, negsuc, negℤ}
 use borrow.Author.Tests.{ltb-true}
 use Rattle.apportionment.specs.Limits.{houseLimit}
 use Rattle.apportionment.specs.Quantities.{
@@ -32,10 +33,21 @@ use Rattle.apportionment.specs.Quantities.{
   shownOf,
   sizeOf,
 }
+use Rattle.apportionment.specs.declared.Mark.{Mark}
 use Rattle.apportionment.specs.declared.Mark.the-variants.{In, High, Over}
 use Rattle.departure.specs.declared.Answer.{Answer}
 use Rattle.departure.specs.declared.Answer.the-variants.{Refused, NoSeats, Shown}
-use Rattle.departure.specs.Answer.{InLimits, departureOf, isOutside, isRefused}
+use Rattle.departure.specs.Answer.{
+  InLimits,
+  departureMark,
+  departureRefusal,
+  departureShown,
+  isOutside,
+  isRefused,
+  markIn,
+  numberOf,
+  shownIn,
+}
 
 -- ---- zero
 
@@ -111,51 +123,55 @@ largest-below p a P H positive below =
 
 -- ---- computed answers
 
--- An answer beside the one that is wanted.
+pub data Input : Type 0 where
+  departure : (p a P H : ℕ) → Input
+
+-- An input beside the answer that is wanted.
 infixl 4 _gives_
 pub data Case : Type 0 where
-  _gives_ : Answer → Answer → Case
+  _gives_ : Input → Answer → Case
 
-unfoldable pub given : Case → Answer
-given (answer gives expected) = answer
+-- What document 01 gives, and what is wanted: the refusal number, the shown departure and the mark.
+unfoldable pub given : Case → ℕ × Option ℤ × Option Mark
+given (departure p a P H gives answer) = (departureRefusal p a P H, departureShown p a P H, departureMark p a P H)
 
-unfoldable pub wanted : Case → Answer
-wanted (answer gives expected) = expected
+unfoldable pub wanted : Case → ℕ × Option ℤ × Option Mark
+wanted (input gives answer) = (numberOf answer, shownIn answer, markIn answer)
 
 unfoldable pub atTheEdges : List Case
 atTheEdges =
     -- at the average; at 10 and 15 per cent exactly, on either side; and just above 10, which shows the same
-    (departureOf 10 1 20 2 gives Shown (pos 0) In)
-    ∷ (departureOf 9 1 20 2 gives Shown (negsuc 999) In)
-    ∷ (departureOf 23 1 40 2 gives Shown (pos 1500) High)
-    ∷ (departureOf 17 1 40 2 gives Shown (negsuc 1499) High)
-    ∷ (departureOf 110001 1 200000 2 gives Shown (pos 1000) High)
+    (departure 10 1 20 2 gives Shown (pos 0) In)
+    ∷ (departure 9 1 20 2 gives Shown (negsuc 999) In)
+    ∷ (departure 23 1 40 2 gives Shown (pos 1500) High)
+    ∷ (departure 17 1 40 2 gives Shown (negsuc 1499) High)
+    ∷ (departure 110001 1 200000 2 gives Shown (pos 1000) High)
     -- halves of a hundredth
-    ∷ (departureOf 20001 1 40000 2 gives Shown (pos 1) In)
-    ∷ (departureOf 19999 1 40000 2 gives Shown (negsuc 0) In)
-    ∷ (departureOf 20003 1 40000 2 gives Shown (pos 2) In)
-    ∷ (departureOf 19997 1 40000 2 gives Shown (negsuc 1) In)
+    ∷ (departure 20001 1 40000 2 gives Shown (pos 1) In)
+    ∷ (departure 19999 1 40000 2 gives Shown (negsuc 0) In)
+    ∷ (departure 20003 1 40000 2 gives Shown (pos 2) In)
+    ∷ (departure 19997 1 40000 2 gives Shown (negsuc 1) In)
     -- less than half a hundredth
-    ∷ (departureOf 25001 1 50000 2 gives Shown (pos 0) In)
-    ∷ (departureOf 24999 1 50000 2 gives Shown (pos 0) In)
+    ∷ (departure 25001 1 50000 2 gives Shown (pos 0) In)
+    ∷ (departure 24999 1 50000 2 gives Shown (pos 0) In)
     -- the largest departures
-    ∷ (departureOf 4294967295 1 4294967295 9999 gives Shown (pos 99980000) Over)
-    ∷ (departureOf 1 9999 4294967295 9999 gives Shown (negsuc 9999) Over)
+    ∷ (departure 4294967295 1 4294967295 9999 gives Shown (pos 99980000) Over)
+    ∷ (departure 1 9999 4294967295 9999 gives Shown (negsuc 9999) Over)
     -- no seat, and each refusal beside what is still taken
-    ∷ (departureOf 5 0 10 3 gives NoSeats)
-    ∷ (departureOf 5 3 10 3 gives Shown (negsuc 4999) Over)
-    ∷ (departureOf 5 4 10 3 gives Refused)
-    ∷ (departureOf 0 1 10 3 gives Refused)
-    ∷ (departureOf 10 1 10 3 gives Shown (pos 20000) Over)
-    ∷ (departureOf 11 1 10 3 gives Refused)
-    ∷ (departureOf 5 1 10 0 gives Refused)
-    ∷ (departureOf 5 0 10 10000 gives Refused)
-    ∷ (departureOf 5 1 0 3 gives Refused)
-    ∷ (departureOf 5 1 4294967296 3 gives Refused)
+    ∷ (departure 5 0 10 3 gives NoSeats)
+    ∷ (departure 5 3 10 3 gives Shown (negsuc 4999) Over)
+    ∷ (departure 5 4 10 3 gives Refused)
+    ∷ (departure 0 1 10 3 gives Refused)
+    ∷ (departure 10 1 10 3 gives Shown (pos 20000) Over)
+    ∷ (departure 11 1 10 3 gives Refused)
+    ∷ (departure 5 1 10 0 gives Refused)
+    ∷ (departure 5 0 10 10000 gives Refused)
+    ∷ (departure 5 1 0 3 gives Refused)
+    ∷ (departure 5 1 4294967296 3 gives Refused)
     ∷ []
 
--- Each answer is the one wanted: antt computes them.
+-- Each input gives what is wanted: antt computes them.
 pub edges-hold : map given atTheEdges ≡ map wanted atTheEdges
-unfolding given wanted atTheEdges departureOf isRefused isOutside shownOf isBelow hundredthsOf sizeOf distance nearestWhole
-    markOf atMost
+unfolding given wanted atTheEdges departureRefusal departureShown departureMark numberOf shownIn markIn isRefused isOutside
+    shownOf isBelow hundredthsOf sizeOf distance nearestWhole markOf atMost
 edges-hold = refl

@@ -8,7 +8,7 @@ ghost use Prim.Native.Nat.{_^_, _<_};
 ghost use lib.IntN.{natAbs, pos, _-ℤ_};
 ghost use Rattle.apportionment.specs.Quantities.{atMost, hundredthsOf, markOf};
 ghost use Rattle.departure.specs.Exact.{Moderate, exactOf, shown, signed, size};
-ghost use Rattle.departure.specs.Answer.{InLimits, departureOf, isOutside, isRefused};
+ghost use Rattle.departure.specs.Answer.{AnswerIs, InLimits, isOutside, isRefused};
 
 // A departure, exactly: (p H - a P) / (a P), not reduced.
 pub struct Departure {
@@ -16,7 +16,7 @@ pub struct Departure {
     pub denominator: u64,
 }
 
-// What the departure operation answers.
+// What the departure operation answers. Its number and values in document 01's terms are `numberOf`, `shownIn` and `markIn`.
 pub enum Answer {
     // Refusal 30.
     Refused,
@@ -88,9 +88,9 @@ impl Departure {
 }
 
 // The departure operation. Refused (30) if `total` or `house` is outside its limits, `population` is outside 1 to `total`, or
-// `seats` is above `house`.
+// `seats` is above `house`. The contract says which number, shown departure and mark the answer has, and so leaves one answer.
 pub fn departure_of(population: u64, seats: u64, total: u64, house: u64) -> Answer
-    ensures { λ r. ⌜ r ≡ departureOf population seats total house ⌝ }
+    ensures { λ r. ⌜ AnswerIs population seats total house r ⌝ }
 {
     if refused(population, seats, total, house) {
         return Answer::Refused;

@@ -1,9 +1,13 @@
 -- The records of the C interface from those of the operations: the same values field for field, an enum as its number.
 -- Assumes nothing.
-use lib.IntN.{pos}
-use Rattle.apportionment.specs.Refusals.{accepted, departureOutOfLimits}
+use mathlib.Core.Path.{_≡_}
+use mathlib.Core.Option.{Option, Option·getD}
+use Prim.Native.Nat.{ℕ}
+use lib.IntN.{ℤ, pos}
+use Rattle.apportionment.specs.declared.Mark.{Mark}
+use Rattle.apportionment.specs.declared.Mark.the-variants.{None}
+use Rattle.departure.specs.Answer.{AnswerIs, departureRefusal, departureShown, departureMark, numberOf, shownIn, markIn}
 use Rattle.departure.specs.declared.Answer.{Answer}
-use Rattle.departure.specs.declared.Answer.the-variants.{Refused, NoSeats, Shown}
 use Rattle.listing.specs.declared.Listed.{Listed}
 use Rattle.placing.specs.declared.Placing.{Placing}
 use Rattle.placing.specs.declared.Placed.{Placed}
@@ -13,7 +17,7 @@ use Rattle.desk.specs.declared.DeskPlacing.{DeskPlacing}
 use Rattle.desk.specs.declared.DeskPlaced.{DeskPlaced}
 use Rattle.desk.specs.declared.DeskShown.{DeskShown}
 use Rattle.desk.specs.declared.DeskWritten.{DeskWritten}
-use Rattle.desk.specs.Numbers.{methodNumber, markNumber, markNone}
+use Rattle.desk.specs.Numbers.{methodNumber, markNumber}
 
 unfoldable pub exportedReading : Reading → DeskReading
 exportedReading r =
@@ -53,11 +57,24 @@ innerPlacing p =
 unfoldable pub exportedPlaced : Placed → DeskPlaced
 exportedPlaced p = record { refusal = p .refusal; placing = exportedPlacing (p .placing) }
 
--- Refused or without seats, the hundredths are 0 and the mark is none.
+-- A departure from its refusal number, its shown departure and its mark: 0 hundredths and the mark `none` where there is none.
+unfoldable pub exportedShown : (refusal : ℕ) → Option ℤ → Option Mark → DeskShown
+exportedShown refusal shown mark =
+    record { refusal = refusal; hundredths = Option·getD shown (pos 0); mark = markNumber (Option·getD mark None) }
+
+-- That record from an answer's number and values, and from those of the operation.
 unfoldable pub exportedAnswer : Answer → DeskShown
-exportedAnswer Refused = record { refusal = departureOutOfLimits; hundredths = pos 0; mark = markNone }
-exportedAnswer NoSeats = record { refusal = accepted; hundredths = pos 0; mark = markNone }
-exportedAnswer (Shown hundredths mark) = record { refusal = accepted; hundredths = hundredths; mark = markNumber mark }
+exportedAnswer answer = exportedShown (numberOf answer) (shownIn answer) (markIn answer)
+
+unfoldable pub exportedDeparture : (p a P H : ℕ) → DeskShown
+exportedDeparture p a P H =
+    exportedShown (departureRefusal p a P H) (departureShown p a P H) (departureMark p a P H)
+
+-- The answer that the operation promises gives the operation's record.
+pub answer-exported : {p a P H : ℕ} {answer : Answer}
+    → AnswerIs p a P H answer → exportedAnswer answer ≡ exportedDeparture p a P H
+unfolding exportedAnswer exportedDeparture
+answer-exported is = rw (is .number, is .shown, is .mark)
 
 unfoldable pub exportedListed : Listed → DeskWritten
 exportedListed l = record { refusal = l .refusal; line = l .line; length = l .size }

@@ -18,14 +18,15 @@ use register::lines_after;
 use register::name_refusal;
 use register::read;
 ghost use mathlib.Core.Path.{_≡_};
+ghost use mathlib.Core.Option.{some};
 ghost use lib.ListN.{length};
-ghost use Rattle.departure.specs.Answer.{departureOf};
-ghost use Rattle.departure.specs.declared.Answer.the-variants.{Shown};
+ghost use Rattle.apportionment.specs.Refusals.{accepted};
 ghost use Rattle.listing.specs.Listing.{listedOf, bufferAfter};
 ghost use Rattle.placing.specs.Placing.{openedOf, steppedOf};
 ghost use Rattle.register.specs.Register.{readingOf};
 ghost use Rattle.desk.specs.Numbers.{methodNumber, methodAt, markNumber};
-ghost use Rattle.desk.specs.Exported.{exportedReading, exportedPlacing, innerPlacing, exportedPlaced, exportedAnswer, exportedListed};
+ghost use Rattle.desk.specs.Exported.{exportedReading, exportedPlacing, innerPlacing, exportedPlaced, exportedListed};
+ghost use Rattle.desk.specs.Exported.{exportedShown, exportedAnswer, exportedDeparture};
 ghost use Rattle.desk.specs.Allotting.{allottedBy, seatsBy};
 ghost use Rattle.desk.specs.Part.{partOf};
 
@@ -201,7 +202,7 @@ fn exported_placed(placed: Placed) -> DeskPlaced
 }
 
 fn exported_shown(hundredths: i64, mark: Mark) -> DeskShown
-    ensures { λ r. ⌜ r ≡ exportedAnswer (Shown hundredths mark) ⌝ }
+    ensures { λ r. ⌜ r ≡ exportedShown accepted (some hundredths) (some mark) ⌝ }
 {
     let mark = mark_number(mark);
     DeskShown {
@@ -292,7 +293,7 @@ pub extern "C" fn desk_step(placing: DeskPlacing) -> DeskPlaced
 // The departure of a state: refusal 30 outside the limits. Refused or without seats the hundredths are 0 and the mark is none.
 #[no_mangle]
 pub extern "C" fn desk_departure(population: u64, seats: u64, total: u64, house: u64) -> DeskShown
-    ensures { λ r. ⌜ r ≡ exportedAnswer (departureOf population seats total house) ⌝ }
+    ensures { λ r. ⌜ r ≡ exportedDeparture population seats total house ⌝ }
 {
     exported_answer(departure_of(population, seats, total, house))
 }

@@ -6,6 +6,7 @@
 use mathlib.Core.Path.{_≡_, refl}
 use mathlib.Core.Bool.{Bool, cond}
 use mathlib.Core.List.{List, [], _++_}
+use mathlib.Core.Option.{Option·elim}
 use Prim.Native.Nat.{ℕ, zero, suc, _+_, _-_, _<_, _≤_, min}
 use native.Mathlib.Numerals.{add-one}
 use native.Mathlib.Omega.{arith}
@@ -16,9 +17,7 @@ use lib.Seq.{length-take-le}
 use Rattle.apportionment.specs.Limits.{stateLimit}
 use Rattle.apportionment.specs.Text.{bytesOf, decimal}
 use Rattle.apportionment.specs.Quantities.{shownText}
-use Rattle.departure.specs.Answer.{departureOf}
-use Rattle.departure.specs.declared.Answer.{Answer}
-use Rattle.departure.specs.declared.Answer.the-variants.{Refused, NoSeats, Shown}
+use Rattle.departure.specs.Answer.{departureShown}
 use Rattle.lines.specs.Lines.{nameAt}
 use Rattle.register.specs.Names.{linesAfter}
 use Rattle.text.specs.Shared.{numbersText, totalLine}
@@ -27,13 +26,8 @@ use Rattle.placing.specs.declared.Placing.{Placing}
 -- ---- departures
 
 -- A departure as text: the shown one, or `none` where there is none, be it for want of a seat or because the numbers are outside their limits.
-unfoldable pub answerText : Answer → List ℕ
-answerText Refused = bytesOf "none"
-answerText NoSeats = bytesOf "none"
-answerText (Shown hundredths mark) = shownText hundredths
-
 unfoldable pub departureText : (p a P H : ℕ) → List ℕ
-departureText p a P H = answerText (departureOf p a P H)
+departureText p a P H = Option·elim (departureShown p a P H) (bytesOf "none") shownText
 
 -- ---- the lines of the start and the end
 

@@ -4,8 +4,7 @@
 use mathlib.Core.Path.{_∙_, sym}
 use native.Mathlib.Nat.{pos-of-ne-zero}
 use borrow.Author.Needs.{needs}
-use borrow.Author.Tests.{eq-eqb, ne-eqb}
-use Rattle.departure.specs.Answer.{departureOf, moderate-size, not-refused}
+use Rattle.departure.specs.Answer.{moderate-size, not-refused, refused-answer, seated-answer, unseated-answer}
 use Rattle.departure.specs.Exact.{exact-shown, exact-size}
 use Rattle.departure.proofs.Signed.{read-back}
 use Rattle.departure.proofs.departure_of.Statement.{statement}
@@ -15,12 +14,10 @@ refused-requires : tie.Need-refused-requires
 refused-requires c κs = search needs
 
 returns : tie.Need-returns
-unfolding departureOf
-returns c = simp (sym (c .before .refused .ensures) ∙ c .if1 .taken)
+returns c = refused-answer _ _ _ _ (sym (c .before .refused .ensures) ∙ c .if1 .taken)
 
 returns-2 : tie.Need-returns-2
-unfolding departureOf
-returns-2 c = simp (sym (c .before .before .refused .ensures) ∙ c .before .if1 .left, eq-eqb _ _ (c .if2 .taken))
+returns-2 c = unseated-answer _ _ _ _ (sym (c .before .before .refused .ensures) ∙ c .before .if1 .left) (c .if2 .taken)
 
 of-requires : tie.Need-of-requires
 of-requires c κs = not-refused _ _ _ _ (sym (c .before .before .refused .ensures) ∙ c .before .if1 .left)
@@ -34,7 +31,6 @@ mark-requires : tie.Need-mark-requires
 mark-requires c κs = search needs
 
 returns-3 : tie.Need-returns-3
-unfolding departureOf
 returns-3 c =
     let seated = c .before .before .before in
     rw (
@@ -45,7 +41,7 @@ returns-3 c =
       exact-shown,
       exact-size,
     )
-    (simp (sym (seated .before .before .refused .ensures) ∙ seated .before .if1 .left, ne-eqb _ _ (seated .if2 .left)))
+    (seated-answer _ _ _ _ (sym (seated .before .before .refused .ensures) ∙ seated .before .if1 .left) (seated .if2 .left))
 
 pub departure-of-spec : {M : Type 1} → statement M
 departure-of-spec =

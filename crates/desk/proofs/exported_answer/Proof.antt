@@ -1,12 +1,11 @@
--- `desk::exported_answer` is right because each arm of its match is the definition's clause for that answer.
+-- `desk::exported_answer` is right because each arm of its match has that answer's number and values.
 -- Assumes nothing.
-use mathlib.Core.Path.{sym, ap, _∙_}
-use lib.IntN.{ℤ}
 use mir.Syntax.{w64}
 use mir.ValLaws.{toZ-ofZ}
-use Rattle.departure.specs.declared.Answer.the-variants.{Shown}
 use borrow.Author.Needs.{needs}
-use Rattle.desk.specs.Exported.{exportedAnswer}
+use Rattle.departure.specs.Answer.{markIn, numberOf, shownIn}
+use Rattle.desk.specs.Exported.{exportedAnswer, exportedShown}
+use Rattle.desk.specs.Numbers.{markNumber}
 use Rattle.desk.proofs.exported_answer.Statement.{statement}
 use Rattle.desk.proofs.exported_answer.Tie as tie
 
@@ -23,20 +22,22 @@ exported-shown-requires : tie.Need-exported-shown-requires
 exported-shown-requires c κs = search needs
 
 returns : tie.Need-returns
-unfolding exportedAnswer
+unfolding exportedAnswer exportedShown numberOf shownIn markIn markNumber
 returns c = rw (c .enum-told .given .1)
 
 returns-2 : tie.Need-returns-2
-unfolding exportedAnswer
+unfolding exportedAnswer exportedShown numberOf shownIn markIn markNumber
 returns-2 c = rw (c .enum-told2 .given .1)
 
 returns-3 : tie.Need-returns-3
+unfolding exportedAnswer numberOf shownIn markIn
 returns-3 c =
     let shown = c .before .before .answer in
-    c .exported-shown .ensures
-    ∙ ap (λ (z : ℤ). exportedAnswer (Shown z (shown .given .0 .1 .0)))
-    (toZ-ofZ w64 (shown .given .0 .0) (record { sfits = c .before .known-told .given .0 .1 }))
-    ∙ sym (ap exportedAnswer (shown .given .1))
+    rw (
+      c .exported-shown .ensures,
+      toZ-ofZ w64 (shown .given .0 .0) (record { sfits = c .before .known-told .given .0 .1 }),
+      shown .given .1,
+    )
 
 pub exported-answer-spec : {M : Type 1} → statement M
 exported-answer-spec =

@@ -1,23 +1,25 @@
 -- `desk::exported_shown` puts the mark's number beside the hundredths.
 -- Assumes nothing.
 use mathlib.Core.Path.{_≡_}
+use mathlib.Core.Option.{some}
 use Prim.Native.Nat.{ℕ}
 use borrow.Author.Needs.{needs}
 use lib.IntN.{ℤ}
 use mir.Syntax.{w64}
 use mir.ValLaws.{toZ-ofZ}
+use Rattle.apportionment.specs.Refusals.{accepted}
 use Rattle.apportionment.specs.declared.Mark.{Mark}
-use Rattle.departure.specs.declared.Answer.the-variants.{Shown}
 use Rattle.desk.specs.declared.DeskShown.{DeskShown}
 use Rattle.desk.specs.Numbers.{markNumber}
-use Rattle.desk.specs.Exported.{exportedAnswer}
+use Rattle.desk.specs.Exported.{exportedShown}
 use Rattle.desk.proofs.exported_shown.Statement.{statement}
 use Rattle.desk.proofs.exported_shown.Tie as tie
 
 -- The record that is made is the definition's, once its word is read back as the hundredths.
 shown-is : (word h : ℤ) (m : Mark) (number : ℕ) → word ≡ h → number ≡ markNumber m
-    → _≡_ {A = DeskShown} (record { refusal = 0; hundredths = word; mark = number }) (exportedAnswer (Shown h m))
-unfolding exportedAnswer
+    → _≡_ {A = DeskShown} (record { refusal = accepted; hundredths = word; mark = number })
+    (exportedShown accepted (some h) (some m))
+unfolding exportedShown
 shown-is word h m number e f = rw (e, f)
 
 mark-number-requires : tie.Need-mark-number-requires

@@ -1,10 +1,11 @@
--- `showing::rows::put_departure` meets its contract: each arm writes the text of its answer.
+-- `showing::rows::put_departure` meets its contract: each arm writes the text of what its answer shows.
 -- Assumes nothing.
-use mathlib.Core.Path.{sym, _∙_}
+use mathlib.Core.Option.{Option·elim}
 use borrow.Author.Needs.{needs}
 use mir.Syntax.{w64}
 use mir.ValLaws.{toZ-ofZ}
-use Rattle.showing.specs.Work.{departureText, answerText}
+use Rattle.departure.specs.Answer.{shownIn}
+use Rattle.showing.specs.Work.{departureText}
 use Rattle.showing.proofs.rows.put_departure.Statement.{statement}
 use Rattle.showing.proofs.rows.put_departure.Tie as tie
 
@@ -39,36 +40,37 @@ same-length : tie.Need-same-length
 same-length c = search needs
 
 returns : tie.Need-returns
-unfolding departureText answerText
+unfolding departureText shownIn Option·elim
 returns c =
     let at-put-bytes = c .before .before in
     let at-enum-told = at-put-bytes .before .before .before in
     let at-departure-of = at-enum-told .before .before in
-    rw (sym (at-departure-of .departure-of .ensures) ∙ at-enum-told .enum-told .given .1) (at-put-bytes .put-bytes .ensures)
+    rw (← at-departure-of .departure-of .ensures .shown, at-enum-told .enum-told .given .1) (at-put-bytes .put-bytes .ensures)
 
 same-length-2 : tie.Need-same-length-2
 same-length-2 c = search needs
 
 returns-2 : tie.Need-returns-2
-unfolding departureText answerText
+unfolding departureText shownIn Option·elim
 returns-2 c =
     let at-put-bytes2 = c .before .before in
     let at-enum-told2 = at-put-bytes2 .before .before .before in
     let at-departure-of = at-enum-told2 .before .before in
-    rw (sym (at-departure-of .departure-of .ensures) ∙ at-enum-told2 .enum-told2 .given .1) (at-put-bytes2 .put-bytes2 .ensures)
+    rw (← at-departure-of .departure-of .ensures .shown, at-enum-told2 .enum-told2 .given .1) (at-put-bytes2 .put-bytes2 .ensures)
 
 same-length-3 : tie.Need-same-length-3
 same-length-3 c = search needs
 
 returns-3 : tie.Need-returns-3
-unfolding departureText answerText
+unfolding departureText shownIn Option·elim
 returns-3 c =
     let at-put-shown = c .before .before in
     let at-known-told = at-put-shown .before .before in
     let at-answer = at-known-told .before in
     let at-departure-of = at-answer .before .before in
     rw (
-      sym (at-departure-of .departure-of .ensures) ∙ at-answer .answer .given .1,
+      ← at-departure-of .departure-of .ensures .shown,
+      at-answer .answer .given .1,
       ← toZ-ofZ w64 (at-answer .answer .given .0 .0) (record { sfits = at-known-told .known-told .given .0 .1 }),
     )
     (at-put-shown .put-shown .ensures)
