@@ -119,7 +119,7 @@ pub record InLimits (p a P H : ℕ) : Type 0 where
   pub seats-within : a ≤ H
 
 -- Where a disjunction fails, both its tests do.
-neither : (s t : Bool) → (s || t) ≡ false → (s ≡ false) × (t ≡ false)
+pub neither : (s t : Bool) → (s || t) ≡ false → (s ≡ false) × (t ≡ false)
 neither true t e = (e, cc)
 neither false t e = (refl, e)
 

@@ -1,7 +1,7 @@
 -- How much room a listing takes, line by line. A listing is first written into a page of just so many bytes, and whoever lends a buffer of so
 -- many is never refused 31.
 -- Assumes nothing.
-use mathlib.Core.Path.{_≡_, sym, _∙_}
+use mathlib.Core.Path.{_≡_, refl, sym, _∙_}
 use mathlib.Core.List.{List, _++_}
 use Prim.Native.Nat.{ℕ, zero, suc, _+_, _*_, _<_, _≤_}
 use native.Mathlib.Omega.{arith}
@@ -19,6 +19,7 @@ use Rattle.text.specs.Bounds.{
   decimal-of-states,
   mark-length,
   method-length,
+  lines-length,
   numbers-length,
   total-line-length,
 }
@@ -75,14 +76,9 @@ state-lines-length : (name : ℕ → List ℕ) (ps seats : List ℕ) (P H k : �
     → ((i : ℕ) → i < k → InLimits (getD ps i 0) (getD seats i 0) P H)
     → length (stateLines name ps seats P H k) ≤ k * lineRoom
 unfolding stateLines
-state-lines-length name ps seats P H zero short each = omega arith
-state-lines-length name ps seats P H (suc k) short each =
-    rw length-append
-    (omega (
-      arith,
-      state-lines-length name ps seats P H k (λ i below. short i (omega arith)) (λ i below. each i (omega arith)),
-      state-line-length (name k) (short k (omega arith)) (each k (omega arith)),
-    ))
+state-lines-length name ps seats P H k short each =
+    lines-length (stateLines name ps seats P H) (λ (i : ℕ). stateLine (name i) (getD ps i 0) (getD seats i 0) P H) lineRoom k refl (λ i. refl)
+    (λ i below. state-line-length (name i) (short i below) (each i below))
 
 -- ---- the listing
 

@@ -1,6 +1,6 @@
 // Leximin's work, shown: the text of a placing's start, of each step with what was weighed before it, and of its end. The work is leximin's
-// whatever method a register names; the first line says so. A caller writes one block at a time to the front of a lent buffer, and prints it
-// if it fitted: it did where the place handed back is not past the buffer's length (crate `text`).
+// whatever method a register names; the first line says so. A caller writes one block at a time to the front of a lent page, which has room
+// for every block of a placing that opening and steps gave (specs/Room.antt).
 mod rows;
 
 use apportionment::STATE_LIMIT;
@@ -12,6 +12,9 @@ ghost use mathlib.Core.List.{[]};
 ghost use lib.ListN.{length};
 ghost use Rattle.text.specs.Writing.{Wrote};
 ghost use Rattle.showing.specs.Work.{statesIn, firstDifference, movedAt, standText, startText, endText, weighedText, stepText, moveText};
+
+// Room for every block: each state weighed, in a line at its longest, and the longest line of a step.
+pub const PAGE_ROOM: usize = STATE_LIMIT * 77 + 89;
 
 // The states of a placing: as many as it says, and no more than it has places for.
 fn states_in(placing: Placing) -> usize

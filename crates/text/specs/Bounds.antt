@@ -1,16 +1,17 @@
--- How long each piece of text can be, crudely: enough to show that a whole listing fits the array in which it is first written.
+-- How long each piece of text can be: by this a whole listing, and a block of the work, fits the page in which it is written.
 -- Assumes nothing.
 use mathlib.Core.Path.{_≡_, refl}
 use mathlib.Core.Bool.{Bool, true, false}
+use mathlib.Core.List.{List, _++_}
 use Prim.Native.Nat.{ℕ, zero, suc, _+_, _*_, _^_, _<_, _≤_, _/_}
+use native.Mathlib.Nat.{suc-mul}
 use native.Mathlib.Omega.{arith}
 use borrow.Author.Tests.{ltb-true, ltb-false}
 use lib.Dec.{ltb}
-use lib.IntN.{ℤ, pos, negsuc, natAbs}
 use lib.ListN.{length, length-append}
 use Rattle.apportionment.specs.Limits.{stateLimit, houseLimit, sumLimit}
 use Rattle.apportionment.specs.Text.{decimal}
-use Rattle.apportionment.specs.Quantities.{hundredthsText, shownText, markText}
+use Rattle.apportionment.specs.Quantities.{hundredthsText, markText}
 use Rattle.apportionment.specs.declared.Mark.{Mark}
 use Rattle.apportionment.specs.declared.Mark.the-variants.{In, High, Over, None}
 use Rattle.apportionment.specs.declared.Method.{Method}
@@ -82,3 +83,11 @@ pub refusal-line-length : (n l : ℕ) → n < 2 ^ 64 → l < 2 ^ 64 → length (
 unfolding refusalLine
 refusal-line-length n l few small =
     simp length-append (omega (arith, numbers-length n l (decimal-of-u64 n few) (decimal-of-u64 l small)))
+
+-- Lines one after the other, each within its room, are within as many rooms.
+pub lines-length : (lines line : ℕ → List ℕ) (room n : ℕ) → length (lines 0) ≡ 0 → ((k : ℕ) → lines (suc k) ≡ lines k ++ line k)
+    → ((k : ℕ) → k < n → length (line k) ≤ room) → length (lines n) ≤ n * room
+lines-length lines line room zero empty more each = omega arith
+lines-length lines line room (suc n) empty more each =
+    rw (more n, length-append, suc-mul)
+    (omega (arith, lines-length lines line room n empty more (λ k below. each k (omega arith)), each n (omega arith)))

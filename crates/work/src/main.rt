@@ -5,81 +5,112 @@
 use apportionment::STATE_LIMIT;
 use apportionment::refusals::ACCEPTED;
 use fields::cut;
-use libc::STDERR_FILENO;
 use placing::Placing;
+use showing::PAGE_ROOM;
+ghost use mathlib.Core.Path.{_≡_};
+ghost use mathlib.Core.Bool.{true};
+ghost use Rattle.showing.specs.Room.{Showable};
+ghost use Rattle.work.specs.Way.{Begun, onTheWay, wayOf};
 
-// Room for the longest block there is: 250 states weighed, at most 75 bytes each, and a step.
-const PAGE_ROOM: usize = 32_768;
+// Room for the line of a refusal.
+const REFUSAL_ROOM: usize = 64;
 
-// Prints what was written to the front of a page, up to the place that writing handed back.
-fn print(page: &[u8], size: usize) {
-    if size <= page.len() {
-        streams::print(&page[..size]);
-        return;
-    }
-    io::write_all(STDERR_FILENO, b"work: a block is longer than its page\n");
+// How far the steps were printed: whether all of them were written, and the placing that stands.
+struct Walked {
+    written: bool,
+    placing: Placing,
 }
 
-fn print_refusal(number: u64, line: u64) {
-    let mut page = [0u8; 64];
+// Each of these prints a block and says whether it was taken; after one that was not, nothing more is printed.
+fn print_refusal(number: u64, line: u64) -> bool {
+    let mut page = [0u8; REFUSAL_ROOM];
     let size = text::put_refusal(&mut page[..], 0, number, line);
-    print(&page, size);
+    streams::print(&page[..size])
 }
 
-fn print_start(rows: &[u8], placing: Placing, sum: u64) {
+fn print_start(rows: &[u8], placing: Placing, sum: u64) -> bool
+    requires { ⌜ Showable (now rows) placing sum ⌝ }
+{
     let mut page = [0u8; PAGE_ROOM];
     let size = showing::put_start(&mut page[..], rows, placing, sum);
-    print(&page, size);
+    streams::print(&page[..size])
 }
 
-fn print_move(rows: &[u8], before: Placing, after: Placing, sum: u64) {
+fn print_move(rows: &[u8], before: Placing, after: Placing, sum: u64) -> bool
+    requires { ⌜ Showable (now rows) before sum × Showable (now rows) after sum ⌝ }
+{
     let mut page = [0u8; PAGE_ROOM];
     let size = showing::put_move(&mut page[..], rows, before, after, sum);
-    print(&page, size);
+    streams::print(&page[..size])
 }
 
-fn print_end(rows: &[u8], placing: Placing, sum: u64) {
+fn print_end(rows: &[u8], placing: Placing, sum: u64) -> bool
+    requires { ⌜ Showable (now rows) placing sum ⌝ }
+{
     let mut page = [0u8; PAGE_ROOM];
     let size = showing::put_end(&mut page[..], rows, placing, sum);
-    print(&page, size);
+    streams::print(&page[..size])
 }
 
-// Steps until a step is refused, as it is at the house, and prints each. From the start the house is fewer steps away than there are states.
-fn print_steps(rows: &[u8], start: Placing, sum: u64) -> Placing {
+// Steps until a step is refused, as it is at the house, and prints each. From the start the house is fewer steps away than there are states,
+// so that the steps never run out.
+fn print_steps(rows: &[u8], start: Placing, sum: u64) -> Walked
+    requires { ⌜ Begun (now rows) start sum ⌝ }
+    ensures { λ r. ⌜ (r .written ≡ true → r .placing ≡ onTheWay start (wayOf start)) ⌝ }
+{
     let mut placing = start;
     let mut made = 0;
     while made < STATE_LIMIT {
         let stepped = placing.step();
         if stepped.refusal != ACCEPTED {
-            return placing;
+            return Walked {
+                written: true,
+                placing,
+            };
         }
         let next = stepped.placing;
-        print_move(rows, placing, next, sum);
-        placing = next;
-        made += 1;
+        if print_move(rows, placing, next, sum) {
+            placing = next;
+            made += 1;
+        } else {
+            return Walked {
+                written: false,
+                placing,
+            };
+        }
     }
-    placing
+    Walked {
+        written: true,
+        placing,
+    }
+}
+
+// Shows the work from the start on.
+fn show_way(rows: &[u8], start: Placing, sum: u64) -> bool
+    requires { ⌜ Begun (now rows) start sum ⌝ }
+{
+    if print_start(rows, start, sum) {
+        let walked = print_steps(rows, start, sum);
+        if walked.written {
+            return print_end(rows, walked.placing, sum);
+        }
+    }
+    false
 }
 
 // Shows the work of a register.
-fn show(register: &[u8]) {
+fn show(register: &[u8]) -> bool {
     let reading = register::read(register);
     if reading.refusal != ACCEPTED {
-        print_refusal(reading.refusal, reading.line);
-        return;
+        return print_refusal(reading.refusal, reading.line);
     }
     let n = reading.states;
     let populations = reading.populations;
     let opened = Placing::open(&populations[..n], reading.house);
     if opened.refusal != ACCEPTED {
-        print_refusal(opened.refusal, 0);
-        return;
+        return print_refusal(opened.refusal, 0);
     }
-    let rows = cut::rest(register);
-    let start = opened.placing;
-    print_start(rows, start, reading.total);
-    let end = print_steps(rows, start, reading.total);
-    print_end(rows, end, reading.total);
+    show_way(cut::rest(register), opened.placing, reading.total)
 }
 
 fn show_standard_input() {
@@ -90,13 +121,15 @@ fn show_standard_input() {
     }
 }
 
-// Shows the work of the register in the file that an argument names.
-fn show_file(argument: usize) {
+// Shows the work of the register in the file that an argument names. A file that could not be read was told, and printing goes on with the
+// next one.
+fn show_file(argument: usize) -> bool {
     let mut register = [0u8; streams::REGISTER_ROOM];
     let input = streams::read_argument(argument, &mut register);
     if input.whole {
-        show(&register[..input.length]);
+        return show(&register[..input.length]);
     }
+    true
 }
 
 fn main() {
@@ -107,7 +140,10 @@ fn main() {
     }
     let mut k = 1;
     while k < count {
-        show_file(k);
-        k += 1;
+        if show_file(k) {
+            k += 1;
+        } else {
+            return;
+        }
     }
 }
