@@ -25,7 +25,7 @@ use Rattle.placing.specs.declared.Placing.{Placing}
 
 -- ---- departures
 
--- A departure as text: the shown one, or `none` where there is none, be it for want of a seat or because the numbers are outside their limits.
+-- A departure as text: the shown one, or `none` where there is none, for want of a seat or because the numbers are outside their limits.
 unfoldable pub departureText : (p a P H : ℕ) → List ℕ
 departureText p a P H = Option·elim (departureShown p a P H) (bytesOf "none") shownText
 
