@@ -2,6 +2,9 @@
 use libc::STDOUT_FILENO;
 use placing::Placing;
 use reporting::same;
+ghost use mathlib.Core.Path.{_≡_};
+ghost use Rattle.apportionment.specs.Lists.{sameList};
+ghost use Rattle.placing.specs.Placing.{samePlacing};
 
 // Steps a placing and hands back what the step handed back.
 pub fn stepped(case: &[u8], placing: Placing, expected: u64) -> Placing {
@@ -38,32 +41,29 @@ fn write_kept(kept: bool) {
 }
 
 // Two placings agree in every number, past their states too.
-fn same_placing(a: Placing, b: Placing) -> bool {
-    if a.states != b.states {
-        return false;
-    }
-    if a.house != b.house {
-        return false;
-    }
-    if a.total != b.total {
-        return false;
-    }
-    if a.steps != b.steps {
-        return false;
-    }
-    if same_populations(a, b) {
-        return same_seats(a, b);
-    }
-    false
+fn same_placing(a: Placing, b: Placing) -> bool
+    ensures { λ r. ⌜ r ≡ samePlacing a b ⌝ }
+{
+    let states = a.states == b.states;
+    let populations = same_populations(a, b);
+    let house = a.house == b.house;
+    let seats = same_seats(a, b);
+    let total = a.total == b.total;
+    let steps = a.steps == b.steps;
+    states & populations & house & seats & total & steps
 }
 
-fn same_populations(a: Placing, b: Placing) -> bool {
+fn same_populations(a: Placing, b: Placing) -> bool
+    ensures { λ r. ⌜ r ≡ sameList (a .populations) (b .populations) ⌝ }
+{
     let xs = a.populations;
     let ys = b.populations;
     same(&xs, &ys)
 }
 
-fn same_seats(a: Placing, b: Placing) -> bool {
+fn same_seats(a: Placing, b: Placing) -> bool
+    ensures { λ r. ⌜ r ≡ sameList (a .seats) (b .seats) ⌝ }
+{
     let xs = a.seats;
     let ys = b.seats;
     same(&xs, &ys)
