@@ -1,10 +1,11 @@
 /* The allotment program in C: reads a register from the file named on the command line, or from
    standard input, and prints its listing or `refused,number,line`. From the repository's root:
 
-       cc -std=c99 -Iinclude examples/desk.c target/staticlib/libdesk.a -o allotment
-       ./allotment examples/hungary-counties.register
+       cc -std=c99 -Iinclude examples/desk.c target/staticlib/libdesk.a -o target/desk
+       target/desk examples/hungary-counties.register
 
-   It ends with 0 after a listing, 1 after a refusal, and 2 if the file cannot be read. */
+   It ends with 0 after a listing, 1 after a refusal, and 2 if the file cannot be read or the text
+   cannot be written. */
 #include "desk.h"
 
 #include <inttypes.h>
@@ -28,10 +29,14 @@ int main(int argc, char **argv)
     }
 
     desk_written written = desk_listing(bytes, length, listing, sizeof listing);
-    if (written.refusal != 0) {
+    if (written.refusal != 0)
         printf("refused,%" PRIu64 ",%" PRIu64 "\n", written.refusal, written.line);
-        return 1;
+    else
+        fwrite(listing, 1, written.length, stdout);
+    /* What is written may wait in a buffer, so that an error shows at the latest here. */
+    if (fclose(stdout) != 0) {
+        perror("standard output");
+        return 2;
     }
-    fwrite(listing, 1, written.length, stdout);
-    return 0;
+    return written.refusal != 0;
 }

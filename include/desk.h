@@ -1,7 +1,9 @@
 /* The allotment desk's C interface (System V ABI): numbers and lent arrays only, nothing kept
    between calls and nothing allocated. A refusal is document 01's number, 0 where none was
    given, and a line is counted from 1, 0 where none applies. A pointer with a length of 0 is not
-   looked at; a lent array is written only as its function says, and not at all on a refusal. */
+   looked at; a lent array is written only as its function says, and not at all on a refusal. An
+   array that is written must not overlap any other array of the same call: the promises hold for
+   arrays that lie apart, and one array lent as populations and as seats gives wrong seats. */
 #ifndef DESK_H
 #define DESK_H
 
@@ -12,13 +14,17 @@
 extern "C" {
 #endif
 
-/* The most states, the largest house, the largest sum of populations, the most bytes of a
-   register, and room for any listing. */
+/* The most states, the largest house, the largest sum of populations, and the most bytes of a
+   register. */
 #define DESK_STATES_LIMIT 250
 #define DESK_HOUSE_LIMIT 9999
 #define DESK_SUM_LIMIT UINT64_C(4294967295)
 #define DESK_REGISTER_LIMIT 65536
-#define DESK_LISTING_ROOM 16052
+
+/* Room for any listing: the longest head, a line for each state at its longest, and the longest
+   line of totals. A buffer of so many bytes is never refused 31; the library is proved to that
+   number (crates/listing/specs/Room.antt, listingRoom). */
+#define DESK_LISTING_ROOM (30 + DESK_STATES_LIMIT * 64 + 22)
 
 /* The methods. */
 enum {

@@ -2,8 +2,12 @@
 use crate::answers;
 use crate::answers::ANSWER_ROOM;
 use crate::answers::front;
+use apportionment::REGISTER_LIMIT;
 use fields::parts::same;
 use libc::STDOUT_FILENO;
+
+// Room for a register that is one byte too long.
+const FILLED_ROOM: usize = REGISTER_LIMIT + 1;
 
 // Reads a register.
 pub fn reads(case: &[u8], register: &[u8], expected: &[u8]) {
@@ -12,9 +16,9 @@ pub fn reads(case: &[u8], register: &[u8], expected: &[u8]) {
     answered(case, front(&page, size), expected);
 }
 
-// Reads a register with letters after it up to a length of at most 65,537.
+// Reads a register with letters after it up to a length of at most the room.
 pub fn reads_filled(case: &[u8], register: &[u8], length: usize, expected: &[u8]) {
-    let mut bytes = [97u8; 65_537];
+    let mut bytes = [97u8; FILLED_ROOM];
     text::put_bytes(&mut bytes, 0, register);
     reads(case, front(&bytes, length), expected);
 }

@@ -13,12 +13,16 @@ const RUNS: usize = 401;
 /// The plain allotment program.
 pub fn be_plain() {
     let mut bytes = Vec::new();
-    std::io::stdin().read_to_end(&mut bytes).expect("a register on standard input");
+    std::io::stdin()
+        .read_to_end(&mut bytes)
+        .expect("a register on standard input");
     let printed = match reference::listing(&bytes) {
         Ok(listing) => listing,
         Err(refusal) => format!("refused,{},{}\n", refusal.number, refusal.line).into_bytes(),
     };
-    std::io::stdout().write_all(&printed).expect("room for the listing");
+    std::io::stdout()
+        .write_all(&printed)
+        .expect("room for the listing");
 }
 
 /// Times both programs on a register and prints their medians and the ratio.
@@ -30,7 +34,11 @@ pub fn time_them(register: &[u8]) {
         command.arg("plain");
         command
     };
-    assert_eq!(run(proved(), register).0, run(plain(), register).0, "the listings differ");
+    assert_eq!(
+        run(proved(), register).0,
+        run(plain(), register).0,
+        "the listings differ"
+    );
     let mut times = (Vec::new(), Vec::new());
     for _ in 0..RUNS {
         times.0.push(run(proved(), register).1);
@@ -52,7 +60,10 @@ fn run(mut command: Command, register: &[u8]) -> (Vec<u8>, f64) {
     let mut input = child.stdin.take().expect("a pipe");
     input.write_all(register).expect("a program that reads");
     drop(input);
-    let printed = child.wait_with_output().expect("a program that ends").stdout;
+    let printed = child
+        .wait_with_output()
+        .expect("a program that ends")
+        .stdout;
     (printed, start.elapsed().as_nanos() as f64 / 1_000.0)
 }
 

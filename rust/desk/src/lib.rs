@@ -25,8 +25,9 @@ pub mod ffi;
 
 /// The most states a register may have.
 pub const STATES_LIMIT: usize = 250;
-/// Room for any listing.
-pub const LISTING_ROOM: usize = 16_052;
+/// Room for any listing: the longest head, a line for each state and the line of totals, as the
+/// library is proved to.
+pub const LISTING_ROOM: usize = 30 + STATES_LIMIT * 64 + 22;
 
 /// Why an operation was refused: document 01's number, and the line of the register counted from
 /// 1, or 0 where no line applies.
