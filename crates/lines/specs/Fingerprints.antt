@@ -19,7 +19,7 @@ use Rattle.lines.specs.Lines.{nameAt, usedIn}
 abbrev pub fingerprintSpan : ℕ
 fingerprintSpan = 4294967296
 
--- Each byte is added to a multiple of what came before it. The factor is the usual prime for 32 bits; no proof hangs on it.
+-- Each byte is added to a multiple of what came before it. The factor is the prime of the FNV hash of 32 bits; no proof hangs on it.
 abbrev pub fingerprintFactor : ℕ
 fingerprintFactor = 16777619
 

@@ -2,7 +2,8 @@
 ghost use mathlib.Core.Path.{_≡_};
 ghost use Rattle.lines.specs.Fingerprints.{fingerprintOf, holds};
 
-// The usual prime for fingerprints of 32 bits.
+// What a fingerprint is multiplied by at each byte: the prime of the FNV hash of 32 bits. It only has to part most names; names of one
+// fingerprint are compared byte by byte.
 const FACTOR: u64 = 16_777_619;
 
 const SPAN: u64 = 4_294_967_296;

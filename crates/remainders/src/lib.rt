@@ -33,7 +33,8 @@ fn standing(population: u64, whole: u64, total: u64, house: u64) -> u64
     population * house - whole * total
 }
 
-// No state stands above this.
+// No state stands above this: a remainder is less than what it is a remainder by, the total. The search for the bar takes it as its upper
+// end and knows nothing else of what a standing is; this function and `standing` alone say it.
 fn top_standing(total: u64) -> u64
     ensures { λ r. ⌜ r ≡ topStanding total ⌝ }
 {
