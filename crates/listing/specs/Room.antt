@@ -1,5 +1,5 @@
--- How much room a listing takes, line by line. A listing is first written into a page of just so many bytes, and whoever lends a buffer of so
--- many is never refused 31.
+-- How much room a listing takes, line by line. A listing is first written into a page of just so many bytes, and whoever lends a buffer of
+-- so many is never refused 31.
 -- Assumes nothing.
 use mathlib.Core.Path.{_≡_, refl, sym, _∙_}
 use mathlib.Core.List.{List, _++_}
@@ -77,8 +77,8 @@ state-lines-length : (name : ℕ → List ℕ) (ps seats : List ℕ) (P H k : �
     → length (stateLines name ps seats P H k) ≤ k * lineRoom
 unfolding stateLines
 state-lines-length name ps seats P H k short each =
-    lines-length (stateLines name ps seats P H) (λ (i : ℕ). stateLine (name i) (getD ps i 0) (getD seats i 0) P H) lineRoom k refl (λ i. refl)
-    (λ i below. state-line-length (name i) (short i below) (each i below))
+    lines-length (stateLines name ps seats P H) (λ (i : ℕ). stateLine (name i) (getD ps i 0) (getD seats i 0) P H) lineRoom k
+    refl (λ i. refl) (λ i below. state-line-length (name i) (short i below) (each i below))
 
 -- ---- the listing
 

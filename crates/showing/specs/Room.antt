@@ -19,7 +19,15 @@ use Rattle.fields.specs.Grammar.{wordLimit}
 use Rattle.departure.specs.Answer.{departureShown, isRefused, neither, not-refused}
 use Rattle.lines.specs.Lines.{nameAt}
 use Rattle.register.specs.Names.{linesAfter}
-use Rattle.text.specs.Bounds.{decimal-length, decimal-of-sum, decimal-of-house, decimal-of-states, numbers-length, total-line-length, lines-length}
+use Rattle.text.specs.Bounds.{
+  decimal-length,
+  decimal-of-sum,
+  decimal-of-house,
+  decimal-of-states,
+  numbers-length,
+  total-line-length,
+  lines-length,
+}
 use Rattle.text.specs.ShownRoom.{shown-room}
 use Rattle.placing.specs.declared.Placing.{Placing}
 use Rattle.showing.specs.Work.{
@@ -176,8 +184,8 @@ verb-length a b = by-test (ltb a b)
     by-test true = omega arith
     by-test false = omega arith
 
-step-length : (step : ℕ) (name : List ℕ) (p a b P H total : ℕ) → step ≤ stateLimit → length name ≤ wordLimit → a ≤ seatsLimit → b ≤ seatsLimit
-    → total ≤ seatsLimit → length (stepLine step name p a b P H total) ≤ stepRoom
+step-length : (step : ℕ) (name : List ℕ) (p a b P H total : ℕ) → step ≤ stateLimit → length name ≤ wordLimit
+    → a ≤ seatsLimit → b ≤ seatsLimit → total ≤ seatsLimit → length (stepLine step name p a b P H total) ≤ stepRoom
 unfolding stepLine
 step-length step name p a b P H total few short from to whole =
     simp length-append
@@ -190,6 +198,10 @@ step-length step name p a b P H total few short from to whole =
     ))
 
 module _ (rows : List ℕ) (before after : Placing) (P : ℕ) (fit : Showable rows before P) (then : Showable rows after P) where
+  -- A seat is added, or withdrawn.
+  abbrev adds : Bool
+  adds = ltb (before .total) (before .house)
+
   weighings-length : length (weighedText (after .steps) rows before P) ≤ stateLimit * weighedRoom
   unfolding weighedText weighedLines weighedAt seatsIn
   weighings-length =
@@ -197,15 +209,15 @@ module _ (rows : List ℕ) (before after : Placing) (P : ℕ) (fit : Showable ro
         arith,
         few-states before,
         lines-length
-            (weighedLines (after .steps) (ltb (before .total) (before .house)) rows (populationsIn before) (seatsIn before) P (before .house))
-            (weighedAt (after .steps) (ltb (before .total) (before .house)) rows (populationsIn before) (seatsIn before) P (before .house))
+            (weighedLines (after .steps) adds rows (populationsIn before) (seatsIn before) P (before .house))
+            (weighedAt (after .steps) adds rows (populationsIn before) (seatsIn before) P (before .house))
             weighedRoom (statesIn before) refl (λ i. refl)
             (λ i below.
             let held = shown-at before (before .seats) i seatsLimit below (fit .seated i) in
             weighed-length (after .steps) (nameAt (linesAfter i rows)) (getD (populationsIn before) i 0) (getD (seatsIn before) i 0)
-            (seatsIfMoved (ltb (before .total) (before .house)) (getD (seatsIn before) i 0) (before .house)) P (before .house)
+            (seatsIfMoved adds (getD (seatsIn before) i 0) (before .house)) P (before .house)
             (then .stepped) (fit .named i below) held
-            (seats-if-moved (ltb (before .total) (before .house)) (getD (seatsIn before) i 0) (before .house) held (fit .housed))),
+            (seats-if-moved adds (getD (seatsIn before) i 0) (before .house) held (fit .housed))),
       )
 
   moved-line-length : (at : ℕ) → length (stepText at rows before after P) ≤ stepRoom
@@ -213,8 +225,8 @@ module _ (rows : List ℕ) (before after : Placing) (P : ℕ) (fit : Showable ro
   moved-line-length at = by-test (ltb at (statesIn before)) refl
     where
       by-test : (t : Bool) → ltb at (statesIn before) ≡ t
-          → length (cond t (stepLine (after .steps) (nameAt (linesAfter at rows)) (getD (before .populations) at 0) (getD (before .seats) at 0)
-          (getD (after .seats) at 0) P (before .house) (after .total)) []) ≤ stepRoom
+          → length (cond t (stepLine (after .steps) (nameAt (linesAfter at rows)) (getD (before .populations) at 0)
+          (getD (before .seats) at 0) (getD (after .seats) at 0) P (before .house) (after .total)) []) ≤ stepRoom
       by-test true inside =
           step-length (after .steps) (nameAt (linesAfter at rows)) (getD (before .populations) at 0) (getD (before .seats) at 0)
           (getD (after .seats) at 0) P (before .house) (after .total) (then .stepped) (fit .named at (ltb-true at (statesIn before) inside))

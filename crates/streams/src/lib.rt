@@ -13,8 +13,8 @@ pub struct Input {
     pub length: usize,
 }
 
-// Reads what a descriptor gives, in however many pieces it comes, until the buffer is full or the input ends. The system's own answer tells a
-// read that failed from the end of the input, and what was read before it failed is not taken for the whole.
+// Reads what a descriptor gives, in however many pieces it comes, until the buffer is full or the input ends. The system's own answer tells
+// a read that failed from the end of the input, and what was read before it failed is not taken for the whole.
 fn read_from(fd: i32, source: &[u8], bytes: &mut [u8]) -> Input
     ensures { λ r. ⌜ Counts (r .length) (now (bytes .exit)) ⌝ }
 {

@@ -1,5 +1,5 @@
--- How long a shown departure can be: at most nine bytes within document 01's limits. Above the average it is at most a house of hundreds of per
--- cent; below, at most one hundred, so that the sign finds room there.
+-- How long a shown departure can be: at most nine bytes within document 01's limits. Above the average it is at most a house of hundreds
+-- of per cent; below, at most one hundred, so that the sign finds room there.
 -- Assumes nothing.
 use mathlib.Core.Path.{_≡_, refl}
 use mathlib.Core.Bool.{Bool, true, false, cond}

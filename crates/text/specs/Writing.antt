@@ -4,13 +4,14 @@
 use mathlib.Core.Path.{_≡_, refl, sym, ap, _∙_}
 use mathlib.Core.Bool.{Bool, true, false, cond}
 use mathlib.Core.List.{List, [], _∷_, _++_}
-use Prim.Native.Nat.{ℕ, suc, _+_, _<_, _≤_, min}
+use Prim.Native.Nat.{ℕ, suc, _+_, _-_, _<_, _≤_, min}
 use native.Mathlib.Nat.{add-zero, zero-add}
+use native.Mathlib.Numerals.{add-one}
 use native.Mathlib.Omega.{arith}
 use borrow.Author.Tests.{leb-true, leb-false, le-leb}
 use lib.Dec.{leb}
-use lib.ListN.{length, take, drop, set, length-append}
-use lib.Seq.{sets, length-sets, sets-eq, set-out, take-at}
+use lib.ListN.{length, take, drop, set, getD, length-append, take-append-drop}
+use lib.Seq.{sets, length-sets, sets-eq, set-out, take-at, take-suc, length-take-le}
 
 -- ---- definitions
 
@@ -62,7 +63,7 @@ unfolding placeAfter
 place-append room at m n = omega arith
 
 -- Writing keeps the buffer's length.
-laid-length : (buffer : List ℕ) (at : ℕ) (text : List ℕ) → length (laid buffer at text) ≡ length buffer
+pub laid-length : (buffer : List ℕ) (at : ℕ) (text : List ℕ) → length (laid buffer at text) ≡ length buffer
 unfolding laid
 laid-length = length-sets
 
@@ -95,6 +96,37 @@ pub wrote-byte : (a : List ℕ) (at b : ℕ) → at < length a → Wrote a at (b
 unfolding laid placeAfter
 wrote-byte a at b within = record { bytes = refl; place = omega arith }
 
+-- One byte more of a text, as a loop lays it.
+pub laid-byte : (a s : List ℕ) (at i : ℕ) → i < length s → set (laid a at (take i s)) (at + i) (getD s i 0) ≡ laid a at (take (i + 1) s)
+unfolding laid
+laid-byte a s at i inside =
+    let first : length (take i s) ≡ i = length-take-le i s (omega arith) in
+    sym (rw (add-one, take-suc s i 0 inside) (laid-append (take i s) (getD s i 0 ∷ []) a at ∙ rw first))
+
+-- A text that fits was written once it is laid.
+pub wrote-laid : (a : List ℕ) (at : ℕ) (s : List ℕ) → at + length s ≤ length a → Wrote a at s (laid a at s) (at + length s)
+unfolding placeAfter
+wrote-laid a at s fits = record { bytes = refl; place = omega arith }
+
+-- Of one that does not fit, as many bytes as there is room for.
+pub wrote-cut : (a : List ℕ) (at : ℕ) (s : List ℕ) → at ≤ length a → length a < at + length s
+    → Wrote a at s (laid a at (take (length a - at) s)) (length a + 1)
+unfolding placeAfter
+wrote-cut a at s inside long = record { bytes = sym rest-dropped; place = omega arith }
+  where
+    room : ℕ
+    room = length a - at
+
+    filled : at + length (take room s) ≡ length a
+    filled = rw (length-take-le room s (omega arith)) (omega arith)
+
+    rest-dropped : laid a at s ≡ laid a at (take room s)
+    rest-dropped =
+        ap (laid a at) (sym (take-append-drop room s))
+        ∙ laid-append (take room s) (drop room s) a at
+        ∙ laid-past (drop room s) (laid a at (take room s)) (at + length (take room s))
+        (omega (arith, filled, laid-length a at (take room s)))
+
 -- Past the end nothing is written.
 pub wrote-past : (a : List ℕ) (at : ℕ) (text : List ℕ) → length a < at + length text → length a ≤ at → Wrote a at text a (length a + 1)
 unfolding placeAfter
@@ -107,11 +139,6 @@ pub wrote-fits : {a b s : List ℕ} {at next : ℕ} → Wrote a at s b next → 
     → (next ≡ at + length s) × (b ≡ take at a ++ s ++ drop (at + length s) a)
 unfolding laid placeAfter
 wrote-fits {a} {b} {s} {at} w fits = (w .place ∙ omega arith, w .bytes ∙ sets-eq s a at fits)
-
--- The place tells whether it fitted.
-pub wrote-within : {a b s : List ℕ} {at next : ℕ} → Wrote a at s b next → next ≤ length a → at + length s ≤ length a
-unfolding placeAfter
-wrote-within {a} {b} {s} {at} {next} w within = omega (arith, w .place)
 
 -- A text stands at the front of a buffer, up to a place.
 pub record AtFront (text buffer : List ℕ) (end : ℕ) : Type 0 where

@@ -5,14 +5,14 @@ use apportionment::Mark;
 use apportionment::Method;
 ghost use mathlib.Core.Path.{_≡_};
 ghost use mathlib.Core.List.{_∷_, []};
-ghost use Prim.Native.Nat.{_<_};
+ghost use Prim.Native.Nat.{_+_, _<_, _≤_};
 ghost use lib.Dec.{leb};
 ghost use lib.IntN.{natAbs};
 ghost use lib.ListN.{length};
 ghost use Rattle.apportionment.specs.Text.{decimal, digit};
 ghost use Rattle.apportionment.specs.Methods.{methodText};
 ghost use Rattle.apportionment.specs.Quantities.{hundredthsText, shownText, markText};
-ghost use Rattle.text.specs.Writing.{Wrote, copiedOut};
+ghost use Rattle.text.specs.Writing.{Wrote, laid, copiedOut};
 ghost use Rattle.text.specs.Shared.{numbersText, totalLine, refusalLine};
 
 // One byte.
@@ -26,20 +26,33 @@ pub fn put_byte(out: &mut [u8], at: usize, byte: u8) -> usize
     out.len() + 1
 }
 
-// The bytes of a lent part.
+// Lays a part over the buffer from a place on, where it fits: one loop over bytes, which the compiler makes a copy of memory.
+fn lay(out: &mut [u8], at: usize, part: &[u8])
+    requires { ⌜ at + length (now part) ≤ length (now out) ⌝ }
+    ensures { λ _. ⌜ now (out .exit) ≡ laid (now (out .entry)) at (now (part .entry)) ⌝ }
+{
+    let mut i = 0;
+    while i < part.len() {
+        out[at + i] = part[i];
+        i += 1;
+    }
+}
+
+// The bytes of a lent part; of one that does not fit, those for which there is room.
 pub fn put_bytes(out: &mut [u8], at: usize, part: &[u8]) -> usize
     ensures { λ r. ⌜ Wrote (now (out .entry)) at (now (part .entry)) (now (out .exit)) r ⌝ }
 {
+    let past = out.len() + 1;
     if at > out.len() {
-        return out.len() + 1;
+        return past;
     }
-    let mut next = at;
-    let mut i = 0;
-    while i < part.len() {
-        next = put_byte(out, next, part[i]);
-        i += 1;
+    let room = out.len() - at;
+    if part.len() <= room {
+        lay(out, at, part);
+        return at + part.len();
     }
-    next
+    lay(out, at, &part[..room]);
+    past
 }
 
 // One digit.

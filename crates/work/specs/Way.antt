@@ -1,5 +1,5 @@
--- The way from the placing that opening gives to the house, which the program prints: stepping goes through it to its end, and every placing
--- on it can be shown, so that each block fits its page.
+-- The way from the placing that opening gives to the house, which the program prints: stepping goes through it to its end, and every
+-- placing on it can be shown, so that each block fits its page.
 -- Assumes nothing.
 use mathlib.Core.Path.{_≡_, refl, sym, _∙_, ap}
 use mathlib.Core.Bool.{Bool, true, false, cond}

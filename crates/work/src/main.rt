@@ -52,8 +52,8 @@ fn print_end(rows: &[u8], placing: Placing, sum: u64) -> bool
     streams::print(&page[..size])
 }
 
-// Steps until a step is refused, as it is at the house, and prints each. From the start the house is fewer steps away than there are states,
-// so that the steps never run out.
+// Steps until a step is refused, as it is at the house, and prints each. From the start the house is fewer steps away than there are
+// states, so that the steps never run out.
 fn print_steps(rows: &[u8], start: Placing, sum: u64) -> Walked
     requires { ⌜ Begun (now rows) start sum ⌝ }
     ensures { λ r. ⌜ (r .written ≡ true → r .placing ≡ onTheWay start (wayOf start)) ⌝ }

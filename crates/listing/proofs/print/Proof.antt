@@ -17,9 +17,10 @@ put-refusal-requires c κs = search needs
 
 returns-2 : tie.Need-returns-2
 returns-2 c =
+    let told = c .before .before .before in
     refusal-printed
-    (c .before .before .before .before .write-listing .ensures) (search needs) (c .before .before .if1 .left) (search needs)
-    (omega (arith, c .before .before .before .struct-known .given)) (c .put-refusal .ensures)
+    (told .before .write-listing .ensures) (search needs) (c .before .before .if1 .left) (search needs)
+    (omega (arith, told .struct-known .given)) (c .put-refusal .ensures)
 
 pub print-spec : {M : Type 1} → statement M
 print-spec = tie.close (tie.spec write-listing-requires returns put-refusal-requires returns-2)

@@ -1,4 +1,5 @@
--- `reporting::same` compares number by number: those before place `i` are the same, so the answer is that of what is left of both from there.
+-- `reporting::same` compares number by number: those before place `i` are the same, so the answer is that of what is left of both from
+-- there.
 -- Assumes nothing.
 use mathlib.Core.Path.{_≡_, refl, sym, _∙_}
 use Prim.Native.Nat.{_-_, _≤_}

@@ -1,5 +1,5 @@
--- `streams::read_from` meets its contract. The loop's invariant: what was read so far is within the buffer, which keeps its length. A turn that
--- goes on has read something, so the room that is left falls.
+-- `streams::read_from` meets its contract. The loop's invariant: what was read so far is within the buffer, which keeps its length. A turn
+-- that goes on has read something, so the room that is left falls.
 -- Assumes nothing.
 use borrow.Author.Needs.{needs}
 use mathlib.Core.Path.{_≡_, sym}

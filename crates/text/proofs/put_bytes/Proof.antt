@@ -1,80 +1,71 @@
--- `text::put_bytes` meets its contract. The loop's invariant: the first i bytes of the part were written; the measure is what is left of it.
+-- `text::put_bytes` meets its contract: a part that fits is laid whole, and of any other the bytes for which there is room.
 -- Assumes nothing.
-use Prim.Native.Nat.{_≤_, _-_}
-use native.Mathlib.Numerals.{add-one}
+use mathlib.Core.Path.{sym}
+use Prim.Native.Nat.{_-_}
+use lib.ListN.{length}
+use lib.Seq.{length-take-le}
 use native.Mathlib.Omega.{arith}
+use Rattle.text.specs.Writing.{wrote-past, wrote-laid, wrote-cut, laid-length}
 use borrow.Author.Needs.{needs}
-use lib.Seq.{take-suc, take-all}
-use lib.ListN.{length, take}
-use Rattle.text.specs.Writing.{Wrote, wrote-nothing, wrote-past, wrote-then, wrote-length}
 use Rattle.text.proofs.put_bytes.Statement.{statement}
 use Rattle.text.proofs.put_bytes.Tie as tie
 
-abbrev Inv-loop : tie.InvT-loop
-Inv-loop out₀ at part next₀ i₀ out next i = (i ≤ length part) × Wrote out₀ at (take i part) out next
+add-past : tie.Need-add-past
+add-past c = search needs
 
-abbrev μ-loop : tie.MeasureT-loop
-μ-loop out₀ at part next₀ i₀ out next i = length part - i
+returns : tie.Need-returns
+returns c = wrote-past _ _ _ (omega arith) (omega arith)
 
-add-result : tie.Need-add-result Inv-loop μ-loop
+sub-room : tie.Need-sub-room
+sub-room c = search needs
+
+lay-requires : tie.Need-lay-requires
+lay-requires c κs = search needs
+
+add-result : tie.Need-add-result
 add-result c = search needs
 
-returns : tie.Need-returns Inv-loop μ-loop
-returns c =
-    wrote-past
-    (c .before .before .before .args .out .now) (c .before .before .before .args .at)
-    (c .before .before .before .args .part .now) (omega arith) (omega arith)
+same-length : tie.Need-same-length
+same-length c = search needs
 
-loop-holds : tie.Need-loop-holds Inv-loop μ-loop
-loop-holds c = (
-  search needs,
-  wrote-nothing (c .before .before .before .args .out .now) (c .before .before .before .args .at) (omega arith),
-)
-
-shared-slice-read-put-byte : tie.Need-shared-slice-read-put-byte Inv-loop μ-loop
-shared-slice-read-put-byte c = search needs
-
-put-byte-requires : tie.Need-put-byte-requires Inv-loop μ-loop
-put-byte-requires c κs = search needs
-
-add-i : tie.Need-add-i Inv-loop μ-loop
-add-i c = search needs
-
-loop-less : tie.Need-loop-less Inv-loop μ-loop
-loop-less c = search needs
-
-loop-again : tie.Need-loop-again Inv-loop μ-loop
-loop-again c =
-    let at-put-byte = c .before .before in
-    let at-loop = at-put-byte .before .before .before .before in
-    let start = at-loop .before .before .before .before in (
-      omega arith,
-      rw
-          (add-one, take-suc (start .args .part .now) (at-loop .loop .i) 0 (omega arith))
-          (wrote-then (at-loop .loop .inv .1) (at-put-byte .put-byte .ensures)),
-    )
-
-same-length : tie.Need-same-length Inv-loop μ-loop
-same-length c = wrote-length (c .before .loop .inv .1)
-
-returns-2 : tie.Need-returns-2 Inv-loop μ-loop
+returns-2 : tie.Need-returns-2
 returns-2 c =
-    let start = c .before .before .before .before .before in
-    rw (take-all (c .before .loop .i) (start .args .part .now) (omega arith)) at (c .before .loop .inv .1)
+    let called = c .before .before in
+    let tested = called .before .before .before in
+    let given = tested .before .before .before .args in
+    rw (called .lay .ensures) (wrote-laid (given .out .now) (given .at) (given .part .now) (omega arith))
+
+slice-aggregate-lay : tie.Need-slice-aggregate-lay
+slice-aggregate-lay c = sym (length-take-le _ _ (omega arith))
+
+lay-requires-2 : tie.Need-lay-requires-2
+lay-requires-2 c κs =
+    let tested = c .before .before .before in
+    let given = tested .before .before .before .args in
+    rw (length-take-le (length (given .out .now) - given .at) (given .part .now) (omega arith)) (omega arith)
+
+same-length-2 : tie.Need-same-length-2
+same-length-2 c = search needs
+
+returns-3 : tie.Need-returns-3
+returns-3 c =
+    let called = c .before .before in
+    let tested = called .before .before .before .before in
+    let given = tested .before .before .before .args in
+    rw (called .lay2 .ensures) (wrote-cut (given .out .now) (given .at) (given .part .now) (omega arith) (omega arith))
 
 pub put-bytes-spec : {M : Type 1} → statement M
 put-bytes-spec =
     tie.close
     (tie.spec
-    Inv-loop
-    μ-loop
-    add-result
+    add-past
     returns
-    loop-holds
-    shared-slice-read-put-byte
-    put-byte-requires
-    add-i
-    loop-less
-    loop-again
+    sub-room
+    lay-requires
+    add-result
     same-length
-    returns-2)
+    returns-2
+    slice-aggregate-lay
+    lay-requires-2
+    same-length-2
+    returns-3)

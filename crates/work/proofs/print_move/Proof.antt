@@ -15,7 +15,9 @@ put-move-requires : tie.Need-put-move-requires
 put-move-requires c κs = search needs
 
 array-share-prefix-page : tie.Need-array-share-prefix-page
-array-share-prefix-page c = wrote-front (c .before .put-move .ensures) (move-fits _ _ _ _ (c .before .before .before .before .pre .0) (c .before .before .before .before .pre .1)) .within
+array-share-prefix-page c =
+    let both = c .before .before .before .before .pre in
+    wrote-front (c .before .put-move .ensures) (move-fits _ _ _ _ (both .0) (both .1)) .within
 
 slice-aggregate-print : tie.Need-slice-aggregate-print
 slice-aggregate-print c = sym (length-take-le _ _ (array-share-prefix-page (c .before)))

@@ -16,7 +16,10 @@ put-refusal-requires : tie.Need-put-refusal-requires
 put-refusal-requires c κs = search needs
 
 array-share-prefix-page : tie.Need-array-share-prefix-page
-array-share-prefix-page c = wrote-front (c .before .put-refusal .ensures) (omega (arith, refusal-line-length (c .before .before .before .args .number) (c .before .before .before .args .line) (search needs) (search needs))) .within
+array-share-prefix-page c =
+    let given = c .before .before .before .args in
+    let short = refusal-line-length (given .number) (given .line) (search needs) (search needs) in
+    wrote-front (c .before .put-refusal .ensures) (omega (arith, short)) .within
 
 slice-aggregate-print : tie.Need-slice-aggregate-print
 slice-aggregate-print c = sym (length-take-le _ _ (array-share-prefix-page (c .before)))

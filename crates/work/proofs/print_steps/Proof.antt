@@ -1,6 +1,6 @@
--- `work::print_steps` meets its contract. The loop's invariant: the placing is the one so many steps from the start, no more than the house is away.
--- So each step that is not refused can be shown, the first one refused stands at the house, and the loop never runs out before that; the
--- measure is the turns that are left.
+-- `work::print_steps` meets its contract. The loop's invariant: the placing is the one so many steps from the start, no more than the house
+-- is away. So each step that is not refused can be shown, the first one refused stands at the house, and the loop never runs out before
+-- that; the measure is the turns that are left.
 -- Assumes nothing.
 use mathlib.Core.Bool.{false≢true}
 use borrow.Author.Needs.{needs}
@@ -27,13 +27,15 @@ step-requires c κs = search needs
 returns : tie.Need-returns Inv-loop μ-loop
 returns c =
     let turn = c .before .before .before .before in
-    λ _. step-at-end (turn .before .before .pre) (turn .loop .inv .0) (turn .loop .inv .1) (c .before .before .step .ensures) (c .if1 .taken)
+    let begun = turn .before .before .pre in
+    λ _. step-at-end begun (turn .loop .inv .0) (turn .loop .inv .1) (c .before .before .step .ensures) (c .if1 .taken)
 
 print-move-requires : tie.Need-print-move-requires Inv-loop μ-loop
 print-move-requires c κs =
     let turn = c .before .before .before .before .before in
     let begun = turn .before .before .pre in
-    let on = step-goes-on begun (turn .loop .inv .0) (turn .loop .inv .1) (c .before .before .before .step .ensures) (c .before .if1 .left) in
+    let stepped = c .before .before .before .step .ensures in
+    let on = step-goes-on begun (turn .loop .inv .0) (turn .loop .inv .1) stepped (c .before .if1 .left) in
     (on-the-way-shown begun _ (turn .loop .inv .0) (turn .loop .inv .1), on-the-way-shown begun _ (on .1) (omega (arith, on .0)))
 
 add-made : tie.Need-add-made Inv-loop μ-loop
@@ -46,7 +48,9 @@ loop-again : tie.Need-loop-again Inv-loop μ-loop
 loop-again c =
     let stepped = c .before .before .before .before .before in
     let turn = stepped .before .before in
-    let on = step-goes-on (turn .before .before .pre) (turn .loop .inv .0) (turn .loop .inv .1) (stepped .step .ensures) (c .before .before .before .if1 .left) in
+    let begun = turn .before .before .pre in
+    let accepts = c .before .before .before .if1 .left in
+    let on = step-goes-on begun (turn .loop .inv .0) (turn .loop .inv .1) (stepped .step .ensures) accepts in
     (on .1, omega (arith, on .0))
 
 returns-2 : tie.Need-returns-2 Inv-loop μ-loop
