@@ -1,0 +1,166 @@
+-- A tournament is built, and replayed after a move, by deciding one inner place after another: from the last place to the first, or up
+-- from the leaf of the one place whose standing changed.
+-- Assumes nothing.
+use mathlib.Core.Path.{_≡_, refl, sym, _∙_, subst}
+use mathlib.Core.Logic.{_≢_, ⊎-elim}
+use mathlib.Core.Bool.{Bool}
+use mathlib.Core.List.{List}
+use Prim.Native.Nat.{ℕ, _+_, _*_, _-_, _/_, _<_, _≤_}
+use native.Mathlib.Decide.{ℕ-discrete}
+use native.Mathlib.Omega.{arith}
+use lib.ListN.{length, getD, set, length-set}
+use lib.Seq.{getD-set-same, getD-set-other}
+use Rattle.claims.specs.Tournament.{better, Passes, Except, Winners, better-is-one, from-the-leaves, halved, halved-too, right-lt}
+
+-- ---- deciding a place
+
+-- Deciding an inner place makes it right; the place half as far is due, as it chose between this one and another.
+pub decided : {due still : ℕ → Type 0} {before : ℕ → ℕ → Bool} {n : ℕ} {t : List ℕ} {k v : ℕ}
+    → Except due before n t → 0 < k → k < n → v ≡ better before (getD t (2 * k) 0) (getD t (2 * k + 1) 0)
+    → still (k / 2) → ((x : ℕ) → x ≢ k → due x → still x) → Except still before n (set t k v)
+decided {due} {still} {before} {n} {t} {k} {v} so-far some inside right half rest =
+    record {
+      size = length-set t k v ∙ so-far .size;
+      leaves = λ i l. kept (n + i) (λ e. omega (arith, e)) ∙ so-far .leaves i l;
+      inner = λ x above l settled. by-place x (ℕ-discrete x k) above l settled;
+    }
+  where
+    kept : (x : ℕ) → x ≢ k → getD (set t k v) x 0 ≡ getD t x 0
+    kept x other = getD-set-other t k x v 0 other
+
+    by-place : (x : ℕ) → Dec (x ≡ k) → 0 < x → x < n → (still x → ⊥)
+        → getD (set t k v) x 0 ≡ better before (getD (set t k v) (2 * x) 0) (getD (set t k v) (2 * x + 1) 0)
+    by-place x (yes e) above l settled =
+        let at-it = getD-set-same t k v 0 (omega (arith, so-far .size)) in
+        rw (e, at-it, kept (2 * k) (λ h. omega arith), kept (2 * k + 1) (λ h. omega arith)) right
+    by-place x (no other) above l settled =
+        let elsewhere : k / 2 ≢ x = λ e. settled (subst still e half) in
+        rw (kept x other, kept (2 * x) (λ h. omega (arith, h, elsewhere)), kept (2 * x + 1) (λ h. omega (arith, h, elsewhere)))
+        (so-far .inner x above l (λ d. settled (rest x other d)))
+
+-- Where no inner place is due, every place is right.
+none-due : {due : ℕ → Type 0} {before : ℕ → ℕ → Bool} {n : ℕ} {t : List ℕ} → Except due before n t
+    → ((x : ℕ) → due x → x ≡ 0) → Winners before n t
+none-due so-far only =
+    record {
+      size = so-far .size;
+      leaves = so-far .leaves;
+      inner = λ k some l _. so-far .inner k some l (λ d. omega (arith, only k d));
+    }
+
+-- What is to be decided between is one of the n places, if no place past k is due.
+both-lt : {due : ℕ → Type 0} {before : ℕ → ℕ → Bool} {n : ℕ} {t : List ℕ} → Except due before n t
+    → ((x : ℕ) → due x → due (x / 2)) → (k : ℕ) → 0 < k → k < n → ((x : ℕ) → due x → x ≤ k)
+    → (getD t (2 * k) 0 < n) × (getD t (2 * k + 1) 0 < n)
+both-lt so-far upward k some inside last = (
+  right-lt so-far upward (2 * k) (omega arith) (omega arith) (λ d. omega (arith, last (2 * k) d)),
+  right-lt so-far upward (2 * k + 1) (omega arith) (omega arith) (λ d. omega (arith, last (2 * k + 1) d)),
+)
+
+-- ---- building
+
+-- The first i leaves are in place.
+pub record Planted (n i : ℕ) (t : List ℕ) : Type 0 where
+  pub size : length t ≡ 2 * n
+  pub leaves : (x : ℕ) → x < i → getD t (n + x) 0 ≡ x
+
+pub planted-none : {n : ℕ} {t : List ℕ} → length t ≡ 2 * n → Planted n 0 t
+planted-none size = record { size = size; leaves = λ x l. absurd (omega arith) }
+
+pub planted-more : {n i : ℕ} {t : List ℕ} → Planted n i t → i < n → Planted n (i + 1) (set t (n + i) i)
+planted-more {n} {i} {t} so-far h =
+    record { size = length-set t (n + i) i ∙ so-far .size; leaves = λ x l. by-place x l (ℕ-discrete x i) }
+  where
+    by-place : (x : ℕ) → x < i + 1 → Dec (x ≡ i) → getD (set t (n + i) i) (n + x) 0 ≡ x
+    by-place x l (yes e) = rw (e, getD-set-same t (n + i) i 0 (omega (arith, so-far .size)))
+    by-place x l (no other) =
+        getD-set-other t (n + i) (n + x) i 0 (λ e. other (omega (arith, e))) ∙ so-far .leaves x (omega (arith, other))
+
+-- The places from k to the first are due.
+abbrev pub Building : (before : ℕ → ℕ → Bool) (n k : ℕ) → List ℕ → Type 0
+Building before n k t = Except (λ x. x ≤ k) before n t
+
+module _ {before : ℕ → ℕ → Bool} {n : ℕ} {t : List ℕ} where
+  pub building-none : Planted n n t → Building before n (n - 1) t
+  building-none p = record { size = p .size; leaves = p .leaves; inner = λ k some l right. absurd (right (omega arith)) }
+
+  pub building-both : {k : ℕ} → Building before n k t → 0 < k → k < n → (getD t (2 * k) 0 < n) × (getD t (2 * k + 1) 0 < n)
+  building-both {k} so-far some inside = both-lt so-far (λ x d. omega arith) k some inside (λ x d. d)
+
+  pub building-more : {k v : ℕ} → Building before n k t → 0 < k → k < n
+      → v ≡ better before (getD t (2 * k) 0) (getD t (2 * k + 1) 0) → Building before n (k - 1) (set t k v)
+  building-more so-far some inside right = decided so-far some inside right (omega arith) (λ x other d. omega arith)
+
+  pub built : Building before n 0 t → Winners before n t
+  built so-far = none-due so-far (λ x d. omega arith)
+
+-- ---- replaying
+
+-- x is k, or on the way up from k to the root.
+pub data OnWay : ℕ → ℕ → Type 0 where
+  here : {k : ℕ} → OnWay k k
+  up : {k x : ℕ} → OnWay (k / 2) x → OnWay k x
+
+further : {k x : ℕ} → OnWay k x → OnWay k (x / 2)
+further here = up here
+further (up o) = up (further o)
+
+on-way-le : {k x : ℕ} → OnWay k x → x ≤ k
+on-way-le {k} here = omega arith
+on-way-le {k} (up o) = omega (arith, on-way-le o)
+
+past-start : {k x : ℕ} → OnWay k x → x ≢ k → OnWay (k / 2) x
+past-start here other = absurd (other refl)
+past-start (up o) other = o
+
+-- The places on the way up from k are due.
+abbrev pub Replaying : (before : ℕ → ℕ → Bool) (n k : ℕ) → List ℕ → Type 0
+Replaying before n k t = Except (OnWay k) before n t
+
+module _ {before : ℕ → ℕ → Bool} {n : ℕ} {t : List ℕ} where
+  pub replaying-both : {k : ℕ} → Replaying before n k t → 0 < k → k < n → (getD t (2 * k) 0 < n) × (getD t (2 * k + 1) 0 < n)
+  replaying-both {k} so-far some inside = both-lt so-far (λ x. further) k some inside (λ x. on-way-le)
+
+  pub replaying-more : {k v : ℕ} → Replaying before n k t → 0 < k → k < n
+      → v ≡ better before (getD t (2 * k) 0) (getD t (2 * k + 1) 0) → Replaying before n (k / 2) (set t k v)
+  replaying-more so-far some inside right = decided so-far some inside right here (λ x other o. past-start o other)
+
+  pub replayed : Replaying before n 0 t → Winners before n t
+  replayed so-far = none-due so-far (λ x o. omega (arith, on-way-le o))
+
+  -- Every place holds a leaf from which it is on the way up.
+  winner-below : Winners before n t → (x : ℕ) → 0 < x → x < 2 * n → OnWay (n + getD t x 0) x
+  winner-below w = from-the-leaves n (λ x. OnWay (n + getD t x 0) x) (λ i l. rw (w .leaves i l) here)
+      (λ k some l first second. rw (w .inner k some l (λ z. z)) (⊎-elim
+      (λ e. rw e (subst (OnWay (n + getD t (2 * k) 0)) (halved k) (further first)))
+      (λ e. rw e (subst (OnWay (n + getD t (2 * k + 1) 0)) (halved-too k) (further second)))
+      (better-is-one before (getD t (2 * k) 0) (getD t (2 * k + 1) 0))))
+
+-- The tests agree on all places but j.
+abbrev pub AgreeBut : (j : ℕ) (before after : ℕ → ℕ → Bool) → Type 0
+AgreeBut j before after = (a b : ℕ) → a ≢ j → b ≢ j → before a b ≡ after a b
+
+better-agrees : (before after : ℕ → ℕ → Bool) (a b : ℕ) → before a b ≡ after a b → before b a ≡ after b a
+    → better before a b ≡ better after a b
+unfolding better
+better-agrees before after a b e h = rw (e, h)
+
+module _ {before after : ℕ → ℕ → Bool} {n : ℕ} {t : List ℕ} where
+  -- Where one place's standing changed, only the way up from its leaf is due.
+  pub replaying-start : Winners before n t → (j : ℕ) → AgreeBut j before after → Replaying after n ((n + j) / 2) t
+  replaying-start w j agree =
+      record {
+        size = w .size;
+        leaves = w .leaves;
+        inner =
+            λ k some l off. w .inner k some l (λ z. z) ∙ (
+            let first = elsewhere k (2 * k) l (halved k) (omega arith) (omega arith) off in
+            let second = elsewhere k (2 * k + 1) l (halved-too k) (omega arith) (omega arith) off in
+            better-agrees before after (getD t (2 * k) 0) (getD t (2 * k + 1) 0) (agree _ _ first second) (agree _ _ second first)
+            );
+      }
+    where
+      elsewhere : (k x : ℕ) → k < n → x / 2 ≡ k → 0 < x → x < 2 * n → (OnWay ((n + j) / 2) k → ⊥) → getD t x 0 ≢ j
+      elsewhere k x inside half some within off e =
+          let below : OnWay (n + j) x = subst (λ i. OnWay (n + i) x) e (winner-below w x some within) in
+          off (past-start (subst (OnWay (n + j)) half (further below)) (λ same. omega arith))
