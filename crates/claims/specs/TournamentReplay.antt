@@ -14,25 +14,39 @@ use Rattle.claims.specs.Tournament.{better, Passes, Except, Winners, bet
 
 -- ---- deciding a place
 
+-- Inner place k decided between the two below it.
+abbrev pub decidedAt : (before : ℕ → ℕ → Bool) (k : ℕ) → List ℕ → List ℕ
+decidedAt before k t = set t k (better before (getD t (2 * k) 0) (getD t (2 * k + 1) 0))
+
+-- What the code needs to decide it: below it stand two of the n places.
+pub record Decidable (n k : ℕ) (t : List ℕ) : Type 0 where
+  pub some : 0 < k
+  pub inside : k < n
+  pub size : length t ≡ 2 * n
+  pub first : getD t (2 * k) 0 < n
+  pub second : getD t (2 * k + 1) 0 < n
+
 -- Deciding an inner place makes it right; the place half as far is due, as it chose between this one and another.
-pub decided : {due still : ℕ → Type 0} {before : ℕ → ℕ → Bool} {n : ℕ} {t : List ℕ} {k v : ℕ}
-    → Except due before n t → 0 < k → k < n → v ≡ better before (getD t (2 * k) 0) (getD t (2 * k + 1) 0)
-    → still (k / 2) → ((x : ℕ) → x ≢ k → due x → still x) → Except still before n (set t k v)
-decided {due} {still} {before} {n} {t} {k} {v} so-far some inside right half rest =
+decided : {due still : ℕ → Type 0} {before : ℕ → ℕ → Bool} {n : ℕ} {t : List ℕ} {k : ℕ} → Except due before n t → Decidable n k t
+    → still (k / 2) → ((x : ℕ) → x ≢ k → due x → still x) → Except still before n (decidedAt before k t)
+decided {due} {still} {before} {n} {t} {k} so-far ready half rest =
     record {
-      size = length-set t k v ∙ so-far .size;
-      leaves = λ i l. kept (n + i) (λ e. omega (arith, e)) ∙ so-far .leaves i l;
+      size = length-set t k won ∙ so-far .size;
+      leaves = λ i l. kept (n + i) (λ e. omega (arith, e, ready .inside)) ∙ so-far .leaves i l;
       inner = λ x above l settled. by-place x (ℕ-discrete x k) above l settled;
     }
   where
-    kept : (x : ℕ) → x ≢ k → getD (set t k v) x 0 ≡ getD t x 0
-    kept x other = getD-set-other t k x v 0 other
+    won : ℕ
+    won = better before (getD t (2 * k) 0) (getD t (2 * k + 1) 0)
+
+    kept : (x : ℕ) → x ≢ k → getD (set t k won) x 0 ≡ getD t x 0
+    kept x other = getD-set-other t k x won 0 other
 
     by-place : (x : ℕ) → Dec (x ≡ k) → 0 < x → x < n → (still x → ⊥)
-        → getD (set t k v) x 0 ≡ better before (getD (set t k v) (2 * x) 0) (getD (set t k v) (2 * x + 1) 0)
+        → getD (set t k won) x 0 ≡ better before (getD (set t k won) (2 * x) 0) (getD (set t k won) (2 * x + 1) 0)
     by-place x (yes e) above l settled =
-        let at-it = getD-set-same t k v 0 (omega (arith, so-far .size)) in
-        rw (e, at-it, kept (2 * k) (λ h. omega arith), kept (2 * k + 1) (λ h. omega arith)) right
+        let it = getD-set-same t k won 0 (omega (arith, so-far .size, ready .inside)) in
+        rw (e, it, kept (2 * k) (λ h. omega (arith, ready .some)), kept (2 * k + 1) (λ h. omega (arith, ready .some)))
     by-place x (no other) above l settled =
         let elsewhere : k / 2 ≢ x = λ e. settled (subst still e half) in
         rw (kept x other, kept (2 * x) (λ h. omega (arith, h, elsewhere)), kept (2 * x + 1) (λ h. omega (arith, h, elsewhere)))
@@ -48,14 +62,17 @@ none-due so-far only =
       inner = λ k some l _. so-far .inner k some l (λ d. omega (arith, only k d));
     }
 
--- What is to be decided between is one of the n places, if no place past k is due.
-both-lt : {due : ℕ → Type 0} {before : ℕ → ℕ → Bool} {n : ℕ} {t : List ℕ} → Except due before n t
-    → ((x : ℕ) → due x → due (x / 2)) → (k : ℕ) → 0 < k → k < n → ((x : ℕ) → due x → x ≤ k)
-    → (getD t (2 * k) 0 < n) × (getD t (2 * k + 1) 0 < n)
-both-lt so-far upward k some inside last = (
-  right-lt so-far upward (2 * k) (omega arith) (omega arith) (λ d. omega (arith, last (2 * k) d)),
-  right-lt so-far upward (2 * k + 1) (omega arith) (omega arith) (λ d. omega (arith, last (2 * k + 1) d)),
-)
+-- Place k can be decided if no place past it is due.
+decidable : {due : ℕ → Type 0} {before : ℕ → ℕ → Bool} {n : ℕ} {t : List ℕ} {k : ℕ} → Except due before n t
+    → ((x : ℕ) → due x → due (x / 2)) → ((x : ℕ) → due x → x ≤ k) → 0 < k → k < n → Decidable n k t
+decidable {due} {before} {n} {t} {k} so-far upward last some inside =
+    record {
+      some = some;
+      inside = inside;
+      size = so-far .size;
+      first = right-lt so-far upward (2 * k) (omega arith) (omega arith) (λ d. omega (arith, last (2 * k) d));
+      second = right-lt so-far upward (2 * k + 1) (omega arith) (omega arith) (λ d. omega (arith, last (2 * k + 1) d));
+    }
 
 -- ---- building
 
@@ -84,15 +101,14 @@ module _ {before : ℕ → ℕ → Bool} {n : ℕ} {t : List ℕ} where
   pub building-none : Planted n n t → Building before n (n - 1) t
   building-none p = record { size = p .size; leaves = p .leaves; inner = λ k some l right. absurd (right (omega arith)) }
 
-  pub building-both : {k : ℕ} → Building before n k t → 0 < k → k < n → (getD t (2 * k) 0 < n) × (getD t (2 * k + 1) 0 < n)
-  building-both {k} so-far some inside = both-lt so-far (λ x d. omega arith) k some inside (λ x d. d)
+  pub building-next : {k : ℕ} → Building before n k t → 0 < k → k < n → Decidable n k t
+  building-next so-far = decidable so-far (λ x d. omega arith) (λ x d. d)
 
-  pub building-more : {k v : ℕ} → Building before n k t → 0 < k → k < n
-      → v ≡ better before (getD t (2 * k) 0) (getD t (2 * k + 1) 0) → Building before n (k - 1) (set t k v)
-  building-more so-far some inside right = decided so-far some inside right (omega arith) (λ x other d. omega arith)
+  pub building-more : {k : ℕ} → Building before n k t → Decidable n k t → Building before n (k - 1) (decidedAt before k t)
+  building-more so-far ready = decided so-far ready (omega (arith, ready .some)) (λ x other d. omega arith)
 
-  pub built : Building before n 0 t → Winners before n t
-  built so-far = none-due so-far (λ x d. omega arith)
+  pub built : {k : ℕ} → Building before n k t → k ≡ 0 → Winners before n t
+  built so-far e = none-due so-far (λ x d. omega arith)
 
 -- ---- replaying
 
@@ -118,15 +134,14 @@ abbrev pub Replaying : (before : ℕ → ℕ → Bool) (n k : ℕ) → List ℕ 
 Replaying before n k t = Except (OnWay k) before n t
 
 module _ {before : ℕ → ℕ → Bool} {n : ℕ} {t : List ℕ} where
-  pub replaying-both : {k : ℕ} → Replaying before n k t → 0 < k → k < n → (getD t (2 * k) 0 < n) × (getD t (2 * k + 1) 0 < n)
-  replaying-both {k} so-far some inside = both-lt so-far (λ x. further) k some inside (λ x. on-way-le)
+  pub replaying-next : {k : ℕ} → Replaying before n k t → 0 < k → k < n → Decidable n k t
+  replaying-next so-far = decidable so-far (λ x. further) (λ x. on-way-le)
 
-  pub replaying-more : {k v : ℕ} → Replaying before n k t → 0 < k → k < n
-      → v ≡ better before (getD t (2 * k) 0) (getD t (2 * k + 1) 0) → Replaying before n (k / 2) (set t k v)
-  replaying-more so-far some inside right = decided so-far some inside right here (λ x other o. past-start o other)
+  pub replaying-more : {k : ℕ} → Replaying before n k t → Decidable n k t → Replaying before n (k / 2) (decidedAt before k t)
+  replaying-more so-far ready = decided so-far ready here (λ x other o. past-start o other)
 
-  pub replayed : Replaying before n 0 t → Winners before n t
-  replayed so-far = none-due so-far (λ x o. omega (arith, on-way-le o))
+  pub replayed : {k : ℕ} → Replaying before n k t → k ≡ 0 → Winners before n t
+  replayed so-far e = none-due so-far (λ x o. omega (arith, on-way-le o))
 
   -- Every place holds a leaf from which it is on the way up.
   winner-below : Winners before n t → (x : ℕ) → 0 < x → x < 2 * n → OnWay (n + getD t x 0) x

@@ -1,44 +1,80 @@
 // The allotment: rounded seats, then one seat after another placed or withdrawn until the house is met.
+use crate::moves::moved;
 use crate::rounding::fill_rounded;
-use crate::scan::first_unmet;
-use crate::scan::last_met;
-use crate::scan::one_less;
+use crate::tournament::build;
+use crate::tournament::plant;
+use crate::tournament::replay;
 use apportionment::Method;
+use apportionment::STATE_LIMIT;
 ghost use mathlib.Core.Path.{_≡_};
 ghost use Prim.Native.Nat.{_*_, _≤_};
+ghost use lib.ListN.{length};
 ghost use Rattle.apportionment.specs.Limits.{houseLimit};
 ghost use Rattle.apportionment.specs.Divisor.{divisorSeats};
-ghost use Rattle.divisor.specs.Scans.{AllCounted};
+ghost use Rattle.divisor.specs.Moves.{Moves, Played, Turn, Turned, movedSeats};
 ghost use Rattle.divisor.specs.Rounding.{Problem};
-ghost use Rattle.divisor.specs.Steps.{placedSeats, withdrawnSeats, Places, Started};
+ghost use Rattle.divisor.specs.Steps.{Started};
 
 // Fewer steps than this are made without rounding again, which costs about as much as four.
 const FEW: u64 = 8;
 
-// Meets the first claim not met, so many times.
-fn place_seats(method: Method, populations: &[u64], times: u64, seats: &mut [u64])
-    requires { ⌜ Places (now populations) (now seats) times ⌝ }
-    ensures { λ _. ⌜ now (seats .exit) ≡ placedSeats method (now (populations .entry)) (now (seats .entry)) times ⌝ }
+// The state at the root moves, and the tournament is replayed from its leaf.
+fn move_one(method: Method, up: bool, populations: &[u64], seats: &mut [u64], tree: &mut [usize])
+    requires { ⌜ Turn method up (now populations) (now seats) (now tree) ⌝ }
+    ensures { λ _. ⌜ Turned method up (now (populations .entry)) (now (seats .entry)) (now (seats .exit)) (now (tree .exit)) ⌝ }
+{
+    let place = tree[1];
+    seats[place] = moved(up, seats[place]);
+    replay(method, up, populations, seats, place, tree);
+}
+
+// So many moves, one after the other.
+fn move_seats(
+    method: Method,
+    up: bool,
+    populations: &[u64],
+    times: u64,
+    seats: &mut [u64],
+    tree: &mut [usize],
+)
+    requires { ⌜ Moves up (now populations) (now seats) times × Played method up (now populations) (now seats) (now tree) ⌝ }
+    ensures { λ _. ⌜ now (seats .exit) ≡ movedSeats method up (now (populations .entry)) (now (seats .entry)) times ⌝ }
 {
     let mut done = 0;
     while done < times {
-        let place = first_unmet(method, populations, seats);
-        seats[place] += 1;
+        move_one(method, up, populations, seats, tree);
         done += 1;
     }
 }
 
-// Gives up the last claim met, so many times.
-fn withdraw_seats(method: Method, populations: &[u64], times: u64, seats: &mut [u64])
-    requires { ⌜ AllCounted (now populations) (now seats) ⌝ }
-    ensures { λ _. ⌜ now (seats .exit) ≡ withdrawnSeats method (now (populations .entry)) (now (seats .entry)) times ⌝ }
+// So many moves by a tournament made in a list of two entries a state.
+fn play(
+    method: Method,
+    up: bool,
+    populations: &[u64],
+    times: u64,
+    seats: &mut [u64],
+    tree: &mut [usize],
+)
+    requires { ⌜ Moves up (now populations) (now seats) times × (length (now tree) ≡ 2 * length (now populations)) ⌝ }
+    ensures { λ _. ⌜ now (seats .exit) ≡ movedSeats method up (now (populations .entry)) (now (seats .entry)) times ⌝ }
 {
-    let mut done = 0;
-    while done < times {
-        let place = last_met(method, populations, seats);
-        seats[place] = one_less(seats[place]);
-        done += 1;
+    plant(populations.len(), tree);
+    build(method, up, populations, seats, tree);
+    move_seats(method, up, populations, times, seats, tree);
+}
+
+// Places so many seats, or withdraws them, by a tournament of its own.
+fn make_moves(method: Method, up: bool, populations: &[u64], times: u64, seats: &mut [u64])
+    requires { ⌜ Moves up (now populations) (now seats) times ⌝ }
+    ensures { λ _. ⌜ now (seats .exit) ≡ movedSeats method up (now (populations .entry)) (now (seats .entry)) times ⌝ }
+{
+    if times == 0 {
+        return;
     }
+    let mut tree = [0usize; 2 * STATE_LIMIT];
+    let nodes = 2 * populations.len();
+    play(method, up, populations, times, seats, &mut tree[..nodes]);
 }
 
 // The house to aim at once rounding for `house` has given so many seats: moved by what was lacking or too much.
@@ -77,8 +113,8 @@ pub fn fill_divisor(method: Method, populations: &[u64], total: u64, house: u64,
 {
     let given = fill_near(method, populations, total, house, seats);
     if house < given {
-        withdraw_seats(method, populations, given - house, seats);
+        make_moves(method, false, populations, given - house, seats);
         return;
     }
-    place_seats(method, populations, house - given, seats);
+    make_moves(method, true, populations, house - given, seats);
 }
