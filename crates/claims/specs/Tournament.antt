@@ -59,7 +59,7 @@ module _ (before : ℕ → ℕ → Bool) where
   unfolding better
   better-of-later {a} {b} l = rw (le-ltb a b l)
 
-  better-either-way : (a b : ℕ) → better before a b ≡ better before b a
+  pub better-either-way : (a b : ℕ) → better before a b ≡ better before b a
   better-either-way a b = ⊎-elim (λ l. better-of-earlier l ∙ sym (better-of-later (omega arith)))
       (λ h. ⊎-elim (λ e. rw e) (λ l. better-of-later (omega arith) ∙ sym (better-of-earlier l)) h) (three-ways a b)
 
@@ -104,6 +104,14 @@ module _ (before : ℕ → ℕ → Bool) where
 
   better-over-second : (a b : ℕ) → Over (better before a b) b
   better-over-second a b = rw (better-either-way a b) (better-over-first b a)
+
+  -- One place more of a scan: the better of the best so far and the next place.
+  pub scan-next : (i : ℕ) → 0 < i → better before (firstPlace before (i - 1)) i ≡ firstPlace before (i + 1 - 1)
+  unfolding firstPlace
+  scan-next (suc k) h =
+      let last : suc k - 1 ≡ k = omega arith in
+      let next : suc k + 1 - 1 ≡ suc k = omega arith in
+      rw (last, next) (better-of-earlier (omega (arith, firstPlace-le before k)))
 
   module _ {n : ℕ} (passes : Passes n before) where
     -- Three places do not hold their own against each other in a ring.
@@ -162,7 +170,7 @@ pub halved-too : (k : ℕ) → (2 * k + 1) / 2 ≡ k
 halved-too k = omega arith
 
 -- A place is the first or the second of those that its half decides between.
-half-of : (x : ℕ) → (x ≡ 2 * (x / 2)) ⊎ (x ≡ 2 * (x / 2) + 1)
+pub half-of : (x : ℕ) → (x ≡ 2 * (x / 2)) ⊎ (x ≡ 2 * (x / 2) + 1)
 half-of x = by-place (ℕ-discrete x (2 * (x / 2)))
   where
     by-place : Dec (x ≡ 2 * (x / 2)) → (x ≡ 2 * (x / 2)) ⊎ (x ≡ 2 * (x / 2) + 1)

@@ -1,16 +1,19 @@
 -- A tournament is built, and replayed after a move, by deciding one inner place after another: from the last place to the first, or up
 -- from the leaf of the one place whose standing changed.
 -- Assumes nothing.
-use mathlib.Core.Path.{_≡_, refl, sym, _∙_, subst}
-use mathlib.Core.Logic.{_≢_, ⊎-elim}
-use mathlib.Core.Bool.{Bool}
+use mathlib.Core.Path.{_≡_, refl, sym, ap, _∙_, subst}
+use mathlib.Core.Logic.{_≢_, _⊎_, inl, inr, ⊎-elim}
+use mathlib.Core.Bool.{Bool, cond}
 use mathlib.Core.List.{List}
-use Prim.Native.Nat.{ℕ, _+_, _*_, _-_, _/_, _<_, _≤_}
+use Prim.Native.Nat.{ℕ, _+_, _*_, _-_, _/_, _%_, _<_, _≤_}
 use native.Mathlib.Decide.{ℕ-discrete}
 use native.Mathlib.Omega.{arith}
+use borrow.Author.Tests.{eq-eqb, ne-eqb}
+use lib.Dec.{eqb}
 use lib.ListN.{length, getD, set, length-set}
 use lib.Seq.{getD-set-same, getD-set-other}
-use Rattle.claims.specs.Tournament.{better, Passes, Except, Winners, better-is-one, from-the-leaves, halved, halved-too, right-lt}
+use Rattle.claims.specs.Tournament.{better, Except, Winners, better-is-one, better-either-way}
+use Rattle.claims.specs.Tournament.{half-of, from-the-leaves, halved, halved-too, right-lt}
 
 -- ---- deciding a place
 
@@ -134,13 +137,13 @@ abbrev pub Replaying : (before : ℕ → ℕ → Bool) (n k : ℕ) → List ℕ 
 Replaying before n k t = Except (OnWay k) before n t
 
 module _ {before : ℕ → ℕ → Bool} {n : ℕ} {t : List ℕ} where
-  pub replaying-next : {k : ℕ} → Replaying before n k t → 0 < k → k < n → Decidable n k t
+  replaying-next : {k : ℕ} → Replaying before n k t → 0 < k → k < n → Decidable n k t
   replaying-next so-far = decidable so-far (λ x. further) (λ x. on-way-le)
 
-  pub replaying-more : {k : ℕ} → Replaying before n k t → Decidable n k t → Replaying before n (k / 2) (decidedAt before k t)
+  replaying-more : {k : ℕ} → Replaying before n k t → Decidable n k t → Replaying before n (k / 2) (decidedAt before k t)
   replaying-more so-far ready = decided so-far ready here (λ x other o. past-start o other)
 
-  pub replayed : {k : ℕ} → Replaying before n k t → k ≡ 0 → Winners before n t
+  replayed : {k : ℕ} → Replaying before n k t → k ≡ 0 → Winners before n t
   replayed so-far e = none-due so-far (λ x o. omega (arith, on-way-le o))
 
   -- Every place holds a leaf from which it is on the way up.
@@ -150,6 +153,68 @@ module _ {before : ℕ → ℕ → Bool} {n : ℕ} {t : List ℕ} where
       (λ e. rw e (subst (OnWay (n + getD t (2 * k) 0)) (halved k) (further first)))
       (λ e. rw e (subst (OnWay (n + getD t (2 * k + 1) 0)) (halved-too k) (further second)))
       (better-is-one before (getD t (2 * k) 0) (getD t (2 * k + 1) 0))))
+
+-- The place beside k: the two meet at the place half as far.
+unfoldable pub beside : ℕ → ℕ
+beside k = cond (eqb (k % 2) 0) (k + 1) (k - 1)
+
+beside-cases : (k : ℕ)
+    → ((k ≡ 2 * (k / 2)) × (beside k ≡ 2 * (k / 2) + 1)) ⊎ ((k ≡ 2 * (k / 2) + 1) × (beside k ≡ 2 * (k / 2)))
+unfolding beside
+beside-cases k = ⊎-elim
+    (λ e. inl (e, rw (eq-eqb (k % 2) 0 (omega arith)) (omega arith)))
+    (λ e. inr (e, rw (ne-eqb (k % 2) 0 (λ h. omega arith)) (omega arith))) (half-of k)
+
+better-beside : (before : ℕ → ℕ → Bool) (t : List ℕ) (k : ℕ)
+    → better before (getD t k 0) (getD t (beside k) 0) ≡ better before (getD t (2 * (k / 2)) 0) (getD t (2 * (k / 2) + 1) 0)
+better-beside before t k = ⊎-elim
+    (λ h. ap (λ x. better before (getD t x 0) (getD t (beside k) 0)) (h .0)
+    ∙ ap (λ x. better before (getD t (2 * (k / 2)) 0) (getD t x 0)) (h .1))
+    (λ h. better-either-way before (getD t k 0) (getD t (beside k) 0)
+    ∙ ap (λ x. better before (getD t x 0) (getD t k 0)) (h .1)
+    ∙ ap (λ x. better before (getD t (2 * (k / 2)) 0) (getD t x 0)) (h .0)) (beside-cases k)
+
+-- Replaying with the winner at k in hand: the way up from the place half as far is due.
+pub record Climbing (before : ℕ → ℕ → Bool) (n k won : ℕ) (t : List ℕ) : Type 0 where
+  pub some : 0 < k
+  pub inside : k < 2 * n
+  pub right : getD t k 0 ≡ won
+  pub above : Replaying before n (k / 2) t
+
+module _ {before : ℕ → ℕ → Bool} {n : ℕ} {t : List ℕ} where
+  pub climbing-none : {j : ℕ} → Replaying before n ((n + j) / 2) t → j < n → Climbing before n (n + j) j t
+  climbing-none {j} so-far h =
+      record { some = omega arith; inside = omega arith; right = so-far .leaves j h; above = so-far }
+
+  module _ {k won : ℕ} (c : Climbing before n k won t) where
+    settled-lt : (x : ℕ) → k / 2 < x → x < 2 * n → getD t x 0 < n
+    settled-lt x past within =
+        right-lt (c .above) (λ y. further) x (omega arith) within (λ o. omega (arith, on-way-le o))
+
+    pub won-lt : won < n
+    won-lt = rw (c .right) at (settled-lt k (omega (arith, c .some)) (c .inside))
+
+    pub beside-within : beside k < 2 * n
+    beside-within = ⊎-elim (λ h. omega (arith, h, c .inside)) (λ h. omega (arith, h, c .inside)) (beside-cases k)
+
+    pub beside-lt : 1 < k → getD t (beside k) 0 < n
+    beside-lt l = settled-lt (beside k) (⊎-elim (λ h. omega (arith, h)) (λ h. omega (arith, h)) (beside-cases k)) beside-within
+
+    pub climbing-more : {v : ℕ} → 1 < k → v ≡ better before won (getD t (beside k) 0) → Climbing before n (k / 2) v (set t (k / 2) v)
+    climbing-more {v} l e =
+        record {
+          some = omega arith;
+          inside = omega (arith, c .inside);
+          right = getD-set-same t (k / 2) v 0 (omega (arith, c .above .size, c .inside));
+          above = subst (λ x. Replaying before n (k / 2 / 2) (set t (k / 2) x)) (sym same)
+              (replaying-more (c .above) (replaying-next (c .above) (omega arith) (omega (arith, c .inside))));
+        }
+      where
+        same : v ≡ better before (getD t (2 * (k / 2)) 0) (getD t (2 * (k / 2) + 1) 0)
+        same = e ∙ rw (← c .right) (better-beside before t k)
+
+    pub climbed : k ≤ 1 → Winners before n t
+    climbed l = replayed (c .above) (omega arith)
 
 -- The tests agree on all places but j.
 abbrev pub AgreeBut : (j : ℕ) (before after : ℕ → ℕ → Bool) → Type 0

@@ -4,7 +4,7 @@
 use mathlib.Core.Path.{_≡_, refl, sym, ap, _∙_}
 use mathlib.Core.Bool.{Bool, true, false}
 use mathlib.Core.List.{List}
-use Prim.Native.Nat.{ℕ, _+_, _-_, _*_, _/_, _<_, _≤_, zero-le}
+use Prim.Native.Nat.{ℕ, _+_, _-_, _/_, _<_, _≤_, zero-le}
 use native.Mathlib.Omega.{arith}
 use native.Mathlib.Numerals.{add-one}
 use lib.ListN.{length, getD, set}
@@ -15,6 +15,7 @@ use Rattle.apportionment.specs.declared.Method.{Method}
 use Rattle.claims.specs.Order.{wantsBefore, firstUnmet, placed, placedTimes}
 use Rattle.claims.specs.Order.{givesUpBefore, lastMet, oneLess, withdrawn, withdrawnTimes}
 use Rattle.claims.specs.Standing.{length-placedTimes, sum-placedTimes, length-withdrawnTimes}
+use Rattle.claims.specs.StandingOrder.{firstPlace-le}
 use Rattle.claims.specs.Tournament.{Passes, Winners, winner-lt, root-is-first}
 use Rattle.claims.specs.TournamentReplay.{AgreeBut, decidedAt, Replaying, replaying-start}
 use Rattle.claims.specs.TournamentOrders.{wants-passes, gives-passes, wants-agree, gives-agree}
@@ -46,6 +47,10 @@ noFewest i = 0
 unfoldable pub movesBefore : Method → Bool → (ps ss : List ℕ) → ℕ → ℕ → Bool
 movesBefore m true ps ss = wantsBefore (methodTest m ps) ss
 movesBefore m false ps ss = givesUpBefore noFewest (methodTest m ps) ss
+
+-- The state that moves first.
+abbrev pub firstToMove : Method → Bool → (ps ss : List ℕ) → ℕ
+firstToMove m up ps ss = firstPlace (movesBefore m up ps ss) (length ps - 1)
 
 -- A state's seats after its move.
 unfoldable pub movedBy : Bool → ℕ → ℕ
@@ -86,7 +91,7 @@ unfolding movesBefore
 moves-agree m true ps ss j v = wants-agree (methodTest m ps) ss j v
 moves-agree m false ps ss j v = gives-agree (methodTest m ps) ss j v noFewest
 
-moved-once : (m : Method) (up : Bool) (ps ss : List ℕ) {i v : ℕ} → i ≡ firstPlace (movesBefore m up ps ss) (length ps - 1)
+pub moved-once : (m : Method) (up : Bool) (ps ss : List ℕ) {i v : ℕ} → i ≡ firstToMove m up ps ss
     → v ≡ movedBy up (getD ss i 0) → set ss i v ≡ movedOnce m up ps ss
 unfolding movedOnce movesBefore movedBy placed oneMore firstUnmet withdrawn oneLess lastMet
 moved-once m true ps ss first e = rw (e, first)
@@ -128,21 +133,16 @@ pub record Moves (up : Bool) (ps ss : List ℕ) (times : ℕ) : Type 0 where
   pub peopled : (i : ℕ) → i < length ps → 0 < getD ps i 0
   pub room : up ≡ true → sum ss + times ≤ houseLimit
 
--- After so many moves.
-pub record Moving (m : Method) (up : Bool) (ps before : List ℕ) (done : ℕ) (ss tree : List ℕ) : Type 0 where
-  pub seats : ss ≡ movedSeats m up ps before done
-  pub played : Played m up ps ss tree
-
 pub moved-none : (m : Method) (up : Bool) (ps ss : List ℕ) → movedSeats m up ps ss 0 ≡ ss
 unfolding movedSeats placedTimes withdrawnTimes
 moved-none m true ps ss = refl
 moved-none m false ps ss = refl
 
-moved-more : (m : Method) (up : Bool) (ps before : List ℕ) (done : ℕ)
-    → movedOnce m up ps (movedSeats m up ps before done) ≡ movedSeats m up ps before (done + 1)
+pub moved-more : (m : Method) (up : Bool) (ps before : List ℕ) (done : ℕ) {ss : List ℕ} → ss ≡ movedSeats m up ps before done
+    → movedOnce m up ps ss ≡ movedSeats m up ps before (done + 1)
 unfolding movedOnce movedSeats placedTimes withdrawnTimes
-moved-more m true ps before done = rw (add-one done)
-moved-more m false ps before done = rw (add-one done)
+moved-more m true ps before done so-far = rw (so-far, add-one done)
+moved-more m false ps before done so-far = rw (so-far, add-one done)
 
 moved-length : (m : Method) (up : Bool) (ps before : List ℕ) (done : ℕ) → length (movedSeats m up ps before done) ≡ length before
 unfolding movedSeats
@@ -162,33 +162,47 @@ moved-few m true {ps} {before} k done h i l =
 moved-few m false {ps} {before} k done h i l =
     omega (arith, k .all .counted i l .seats, withdrawn-at-most noFewest (methodTest m ps) (length ps) before done i)
 
-module _ (m : Method) {up : Bool} {ps before : List ℕ} {times : ℕ} (k : Moves up ps before times) where
-  moved-counted : (done : ℕ) → done ≤ times → AllCounted ps (movedSeats m up ps before done)
-  moved-counted done h =
-      record {
-        some = k .all .some;
-        sameLength = moved-length m up ps before done ∙ k .all .sameLength;
-        counted = λ i l. record { people = k .all .counted i l .people; seats = moved-few m up k done h i l };
-      }
+-- The seats after some of the moves are within bounds.
+pub moved-counted : (m : Method) {up : Bool} {ps before : List ℕ} {times : ℕ} → Moves up ps before times
+    → (done : ℕ) → done ≤ times → {ss : List ℕ} → ss ≡ movedSeats m up ps before done → AllCounted ps ss
+moved-counted m {up} {ps} {before} k done h so-far =
+    record {
+      some = k .all .some;
+      sameLength = ap length so-far ∙ moved-length m up ps before done ∙ k .all .sameLength;
+      counted = λ i l. record { people = k .all .counted i l .people; seats = rw so-far (moved-few m up k done h i l) };
+    }
 
+-- ---- by scans
+
+pub first-so-far-lt : (m : Method) (up : Bool) {ps ss : List ℕ} {i best : ℕ} → AllCounted ps ss → i ≤ length ps
+    → best ≡ firstPlace (movesBefore m up ps ss) (i - 1) → best < length ps
+first-so-far-lt m up {ps} {ss} {i} k h e = omega (arith, e, k .some, firstPlace-le (movesBefore m up ps ss) (i - 1))
+
+pub first-lt : (m : Method) (up : Bool) {ps ss : List ℕ} {i : ℕ} → AllCounted ps ss → i ≡ firstToMove m up ps ss
+    → (i < length ps) × (i < length ss)
+first-lt m up k e = let within = first-so-far-lt m up k (omega arith) e in (within, omega (arith, within, k .sameLength))
+
+-- ---- by a tournament
+
+-- After so many moves.
+pub record Moving (m : Method) (up : Bool) (ps before : List ℕ) (done : ℕ) (ss tree : List ℕ) : Type 0 where
+  pub seats : ss ≡ movedSeats m up ps before done
+  pub played : Played m up ps ss tree
+
+module _ {m : Method} {up : Bool} {ps before : List ℕ} where
   pub moving-none : {tree : List ℕ} → Played m up ps before tree → Moving m up ps before 0 before tree
   moving-none played = record { seats = sym (moved-none m up ps before); played = played }
 
   module _ {done : ℕ} {ss tree : List ℕ} (so-far : Moving m up ps before done ss tree) where
-    once-more : movedOnce m up ps ss ≡ movedSeats m up ps before (done + 1)
-    once-more = rw (so-far .seats) (moved-more m up ps before done)
-
-    pub moving-counted : done ≤ times → AllCounted ps ss
-    moving-counted h = rw (so-far .seats) (moved-counted done h)
-
-    pub moving-turn : done < times → Turn m up ps ss tree
-    moving-turn h =
+    pub moving-turn : {times : ℕ} → Moves up ps before times → done < times → Turn m up ps ss tree
+    moving-turn k h =
         record {
-          all = moving-counted (omega arith);
-          after = rw once-more (moved-counted (done + 1) (omega arith));
+          all = moved-counted m k done (omega arith) (so-far .seats);
+          after = moved-counted m k (done + 1) (omega arith) (moved-more m up ps before done (so-far .seats));
           peopled = k .peopled;
           played = so-far .played;
         }
 
     pub moving-more : {after tree′ : List ℕ} → Turned m up ps ss after tree′ → Moving m up ps before (done + 1) after tree′
-    moving-more turned = record { seats = turned .seats ∙ once-more; played = turned .played }
+    moving-more turned =
+        record { seats = turned .seats ∙ moved-more m up ps before done (so-far .seats); played = turned .played }

@@ -3,5 +3,6 @@
 pub mod claim;
 pub mod fill;
 pub mod moves;
+pub mod order;
 pub mod rounding;
 pub mod tournament;

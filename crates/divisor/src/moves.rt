@@ -1,86 +1,23 @@
-// Which of two states moves first: is given the next seat where seats are placed (`up`), gives one up where they are withdrawn.
-use crate::claim::claim_less;
-use crate::claim::claim_of;
+// Moves: the seats that rounding left lacking or too much are placed (`up`) or withdrawn one after the other, by a tournament or, where
+// that is faster, by scans.
+use crate::order::first_to_move;
+use crate::tournament::build;
+use crate::tournament::plant;
+use crate::tournament::replay;
 use apportionment::Method;
+use apportionment::STATE_LIMIT;
 ghost use mathlib.Core.Path.{_≡_};
-ghost use Prim.Native.Nat.{_<_};
-ghost use Rattle.claims.specs.Order.{wantsBefore, givesUpBefore};
-ghost use Rattle.claims.specs.DivisorClaims.{methodTest};
-ghost use Rattle.claims.specs.Tournament.{better};
-ghost use Rattle.divisor.specs.Moves.{Pair, movesBefore, movedBy, noFewest};
+ghost use Prim.Native.Nat.{_*_, _<_};
+ghost use lib.ListN.{length};
+ghost use Rattle.divisor.specs.Moves.{AllCounted, Moves, Played, Turn, Turned, movedBy, movedOnce, movedSeats};
 
-// State i's next claim comes before state j's.
-fn wants_before(method: Method, populations: &[u64], seats: &[u64], i: usize, j: usize) -> bool
-    requires { ⌜ Pair (now populations) (now seats) i j ⌝ }
-    ensures { λ r. ⌜ r ≡ wantsBefore (methodTest method (now (populations .entry))) (now (seats .entry)) i j ⌝ }
-{
-    let own = claim_of(method, populations[i], seats[i]);
-    let other = claim_of(method, populations[j], seats[j]);
-    claim_less(own, other)
-}
+// For so few seats, or among so few states, a scan for each seat is faster than a tournament.
+const FEW_SEATS: u64 = 3;
 
-// State i has a seat to give up, and state j has none or had its last seat no later.
-fn gives_up_before(method: Method, populations: &[u64], seats: &[u64], i: usize, j: usize) -> bool
-    requires { ⌜ Pair (now populations) (now seats) i j ⌝ }
-    ensures { λ r. ⌜ r ≡ givesUpBefore noFewest (methodTest method (now (populations .entry))) (now (seats .entry)) i j ⌝ }
-{
-    let own_seats = seats[i];
-    if own_seats == 0 {
-        return false;
-    }
-    let other_seats = seats[j];
-    if other_seats == 0 {
-        return true;
-    }
-    let own = claim_of(method, populations[i], own_seats - 1);
-    let other = claim_of(method, populations[j], other_seats - 1);
-    !claim_less(own, other)
-}
-
-// State i moves before state j.
-fn moves_before(
-    method: Method,
-    up: bool,
-    populations: &[u64],
-    seats: &[u64],
-    i: usize,
-    j: usize,
-) -> bool
-    requires { ⌜ Pair (now populations) (now seats) i j ⌝ }
-    ensures { λ r. ⌜ r ≡ movesBefore method up (now (populations .entry)) (now (seats .entry)) i j ⌝ }
-{
-    if up {
-        return wants_before(method, populations, seats, i, j);
-    }
-    gives_up_before(method, populations, seats, i, j)
-}
-
-// The one of two states that moves first: the earlier one, unless the later moves before it.
-pub fn better_of(
-    method: Method,
-    up: bool,
-    populations: &[u64],
-    seats: &[u64],
-    a: usize,
-    b: usize,
-) -> usize
-    requires { ⌜ Pair (now populations) (now seats) a b ⌝ }
-    ensures { λ r. ⌜ r ≡ better (movesBefore method up (now (populations .entry)) (now (seats .entry))) a b ⌝ }
-{
-    if a < b {
-        if moves_before(method, up, populations, seats, b, a) {
-            return b;
-        }
-        return a;
-    }
-    if moves_before(method, up, populations, seats, a, b) {
-        return a;
-    }
-    b
-}
+const FEW_STATES: usize = 16;
 
 // A state's seats after a move: one more, or one less and none of none.
-pub fn moved(up: bool, x: u64) -> u64
+fn moved(up: bool, x: u64) -> u64
     requires { ⌜ x < 18446744073709551615 ⌝ }
     ensures { λ r. ⌜ r ≡ movedBy up x ⌝ }
 {
@@ -88,4 +25,93 @@ pub fn moved(up: bool, x: u64) -> u64
         return x + 1;
     }
     if x == 0 { 0 } else { x - 1 }
+}
+
+// The state at the root moves, and the tournament is replayed from its leaf.
+fn move_one(method: Method, up: bool, populations: &[u64], seats: &mut [u64], tree: &mut [usize])
+    requires { ⌜ Turn method up (now populations) (now seats) (now tree) ⌝ }
+    ensures { λ _. ⌜ Turned method up (now (populations .entry)) (now (seats .entry)) (now (seats .exit)) (now (tree .exit)) ⌝ }
+{
+    let place = tree[1];
+    seats[place] = moved(up, seats[place]);
+    replay(method, up, populations, seats, place, tree);
+}
+
+// So many moves, one after the other.
+fn move_seats(
+    method: Method,
+    up: bool,
+    populations: &[u64],
+    times: u64,
+    seats: &mut [u64],
+    tree: &mut [usize],
+)
+    requires { ⌜ Moves up (now populations) (now seats) times × Played method up (now populations) (now seats) (now tree) ⌝ }
+    ensures { λ _. ⌜ now (seats .exit) ≡ movedSeats method up (now (populations .entry)) (now (seats .entry)) times ⌝ }
+{
+    let mut done = 0;
+    while done < times {
+        move_one(method, up, populations, seats, tree);
+        done += 1;
+    }
+}
+
+// So many moves by a tournament made in a list of two entries a state.
+fn play(
+    method: Method,
+    up: bool,
+    populations: &[u64],
+    times: u64,
+    seats: &mut [u64],
+    tree: &mut [usize],
+)
+    requires { ⌜ Moves up (now populations) (now seats) times × (length (now tree) ≡ 2 * length (now populations)) ⌝ }
+    ensures { λ _. ⌜ now (seats .exit) ≡ movedSeats method up (now (populations .entry)) (now (seats .entry)) times ⌝ }
+{
+    plant(populations.len(), tree);
+    build(method, up, populations, seats, tree);
+    move_seats(method, up, populations, times, seats, tree);
+}
+
+// The state that moves first, found by going through all, moves.
+fn scan_one(method: Method, up: bool, populations: &[u64], seats: &mut [u64])
+    requires { ⌜ AllCounted (now populations) (now seats) ⌝ }
+    ensures { λ _. ⌜ now (seats .exit) ≡ movedOnce method up (now (populations .entry)) (now (seats .entry)) ⌝ }
+{
+    let place = first_to_move(method, up, populations, seats);
+    seats[place] = moved(up, seats[place]);
+}
+
+// So many moves by scans.
+fn scan_moves(method: Method, up: bool, populations: &[u64], times: u64, seats: &mut [u64])
+    requires { ⌜ Moves up (now populations) (now seats) times ⌝ }
+    ensures { λ _. ⌜ now (seats .exit) ≡ movedSeats method up (now (populations .entry)) (now (seats .entry)) times ⌝ }
+{
+    let mut done = 0;
+    while done < times {
+        scan_one(method, up, populations, seats);
+        done += 1;
+    }
+}
+
+// Is going through all states for each seat faster than making a tournament?
+fn few(times: u64, states: usize) -> bool {
+    if times < FEW_SEATS {
+        return true;
+    }
+    states < FEW_STATES
+}
+
+// Places so many seats, or withdraws them.
+pub fn make_moves(method: Method, up: bool, populations: &[u64], times: u64, seats: &mut [u64])
+    requires { ⌜ Moves up (now populations) (now seats) times ⌝ }
+    ensures { λ _. ⌜ now (seats .exit) ≡ movedSeats method up (now (populations .entry)) (now (seats .entry)) times ⌝ }
+{
+    if few(times, populations.len()) {
+        scan_moves(method, up, populations, times, seats);
+        return;
+    }
+    let mut tree = [0usize; 2 * STATE_LIMIT];
+    let nodes = 2 * populations.len();
+    play(method, up, populations, times, seats, &mut tree[..nodes]);
 }

@@ -1,10 +1,10 @@
 // The tournament of states: a leaf for each, and at each inner place the one of its two that moves first. The root is the next to move.
-use crate::moves::better_of;
+use crate::order::better_of;
 use apportionment::Method;
 ghost use mathlib.Core.Path.{_≡_};
-ghost use Prim.Native.Nat.{_*_};
+ghost use Prim.Native.Nat.{_*_, _<_};
 ghost use lib.ListN.{length};
-ghost use Rattle.claims.specs.TournamentReplay.{Planted, Decidable};
+ghost use Rattle.claims.specs.TournamentReplay.{Planted, Decidable, beside};
 ghost use Rattle.divisor.specs.Moves.{AllCounted, Decided, Replays, Played};
 
 // Puts each state at its leaf.
@@ -47,7 +47,18 @@ pub fn build(method: Method, up: bool, populations: &[u64], seats: &[u64], tree:
     }
 }
 
-// Decides anew the places on the way up from the leaf of a state whose seats have changed.
+// The place beside k: the two meet at the place half as far.
+fn beside_of(k: usize) -> usize
+    requires { ⌜ k < 18446744073709551615 ⌝ }
+    ensures { λ r. ⌜ r ≡ beside k ⌝ }
+{
+    if k % 2 == 0 {
+        return k + 1;
+    }
+    k - 1
+}
+
+// Decides anew the places on the way up from the leaf of a state whose seats have changed, with the winner so far in hand.
 pub fn replay(
     method: Method,
     up: bool,
@@ -59,9 +70,12 @@ pub fn replay(
     requires { ⌜ AllCounted (now populations) (now seats) × Replays method up (now populations) (now seats) place (now tree) ⌝ }
     ensures { λ _. ⌜ Played method up (now (populations .entry)) (now (seats .entry)) (now (tree .exit)) ⌝ }
 {
-    let mut k = (populations.len() + place) / 2;
-    while k > 0 {
-        decide(method, up, populations, seats, k, tree);
+    let mut won = place;
+    let mut k = populations.len() + place;
+    while k > 1 {
+        let other = beside_of(k);
+        won = better_of(method, up, populations, seats, won, tree[other]);
         k /= 2;
+        tree[k] = won;
     }
 }

@@ -1,57 +1,84 @@
--- `divisor::tournament::replay` is right because at each turn only the places on the way up from k are due.
+-- `divisor::tournament::replay` is right because at each turn the winner in hand is that at k, and only the way up past it is due.
 -- Assumes nothing.
-use Prim.Native.Nat.{_<_}
+use mathlib.Core.Path.{sym, _∙_}
 use native.Mathlib.Omega.{arith}
 use lib.ListN.{length}
-use borrow.Author.Needs.{needs}
-use Rattle.claims.specs.TournamentReplay.{Replaying, replaying-next, replaying-more, replayed}
+use Rattle.claims.specs.TournamentReplay.{Climbing, climbing-none, won-lt, beside-within, beside-lt, climbing-more, climbed}
 use Rattle.divisor.specs.Moves.{movesBefore}
 use Rattle.divisor.proofs.tournament.replay.Statement.{statement}
 use Rattle.divisor.proofs.tournament.replay.Tie as tie
 
 abbrev Inv-loop : tie.InvT-loop
-Inv-loop method up populations seats place tree₀ k₀ tree k =
-    (k < length populations) × Replaying (movesBefore method up populations seats) (length populations) k tree
+Inv-loop method up populations seats place tree₀ won₀ k₀ tree won k =
+    Climbing (movesBefore method up populations seats) (length populations) k won tree
 
 abbrev μ-loop : tie.MeasureT-loop
-μ-loop method up populations seats place tree₀ k₀ tree k = k
+μ-loop method up populations seats place tree₀ won₀ k₀ tree won k = k
 
 add-k : tie.Need-add-k Inv-loop μ-loop
-add-k c = search needs
+add-k c = omega (arith, c .before .before .before .pre .1 .0, c .before .before .before .pre .1 .1 .size)
 
 loop-holds : tie.Need-loop-holds Inv-loop μ-loop
 loop-holds c =
     let start = c .before .before .before in
-    (omega (arith, start .pre .1 .0), start .pre .1 .1)
+    climbing-none (start .pre .1 .1) (start .pre .1 .0)
 
-decide-requires : tie.Need-decide-requires Inv-loop μ-loop
-decide-requires c κs =
-    let turn = c .before .before in
+beside-of-requires : tie.Need-beside-of-requires Inv-loop μ-loop
+beside-of-requires c κs = omega (arith, c .before .loop .inv .inside, c .before .loop .inv .above .size)
+
+mul-better-of : tie.Need-mul-better-of Inv-loop μ-loop
+mul-better-of c =
+    let turn = c .before .before .loop in
+    omega (arith, c .beside-of .ensures, beside-within (turn .inv), turn .inv .above .size)
+
+slice-read-better-of : tie.Need-slice-read-better-of Inv-loop μ-loop
+slice-read-better-of c =
+    let found = c .before in
+    let turn = found .before .before .loop in
+    omega (arith, found .beside-of .ensures, beside-within (turn .inv), turn .inv .above .size)
+
+better-of-requires : tie.Need-better-of-requires Inv-loop μ-loop
+better-of-requires c κs =
+    let found = c .before in
+    let test = found .before in
+    let turn = test .before in
     let start = turn .before .before .before .before in
-    (start .pre .0, replaying-next (turn .loop .inv .1) (c .before .loop-test .taken) (turn .loop .inv .0))
+    record {
+      all = start .pre .0;
+      one = won-lt (turn .loop .inv);
+      other = rw (found .beside-of .ensures) (beside-lt (turn .loop .inv) (test .loop-test .taken));
+    }
+
+mul-tree : tie.Need-mul-tree Inv-loop μ-loop
+mul-tree c =
+    let turn = c .before .before .before .before .loop in
+    omega (arith, turn .inv .inside, turn .inv .above .size)
+
+slice-write-tree : tie.Need-slice-write-tree Inv-loop μ-loop
+slice-write-tree c =
+    let turn = c .before .before .before .before .loop in
+    omega (arith, turn .inv .inside, turn .inv .above .size)
 
 loop-less : tie.Need-loop-less Inv-loop μ-loop
 loop-less c =
-    let test = c .before .before .before .before in
+    let test = c .before .before .before in
     omega (arith, test .loop-test .taken)
 
 loop-again : tie.Need-loop-again Inv-loop μ-loop
 loop-again c =
-    let played = c .before .before in
-    let test = played .before .before in
-    let turn = test .before .loop in (
-      omega (arith, turn .inv .0),
-      rw (played .decide .ensures) (replaying-more (turn .inv .1) (replaying-next (turn .inv .1) (test .loop-test .taken) (turn .inv .0))),
-    )
+    let found = c .before .before in
+    let test = found .before in
+    let turn = test .before .loop in
+    climbing-more (turn .inv) (test .loop-test .taken) (rw (← found .beside-of .ensures) (c .better-of .ensures))
 
 same-length : tie.Need-same-length Inv-loop μ-loop
 same-length c =
     let turn = c .before in
     let start = turn .before .before .before .before in
-    omega (arith, turn .loop .inv .1 .size, start .pre .1 .1 .size)
+    turn .loop .inv .above .size ∙ sym (start .pre .1 .1 .size)
 
 returns : tie.Need-returns Inv-loop μ-loop
-returns c = replayed (c .before .loop .inv .1) (omega (arith, c .loop-test .left))
+returns c = climbed (c .before .loop .inv) (c .loop-test .left)
 
 pub replay-spec : {M : Type 1} → statement M
 replay-spec =
@@ -61,7 +88,12 @@ replay-spec =
     μ-loop
     add-k
     loop-holds
-    decide-requires
+    beside-of-requires
+    mul-better-of
+    slice-read-better-of
+    better-of-requires
+    mul-tree
+    slice-write-tree
     loop-less
     loop-again
     same-length

@@ -1,11 +1,11 @@
--- `divisor::fill::move_seats` is right because after each turn so many moves are made, and the tournament is that of the seats then.
+-- `divisor::moves::move_seats` is right because after each turn so many moves are made, and the tournament is that of the seats then.
 -- Assumes nothing.
 use mathlib.Core.Path.{_≡_, sym, _∙_}
 use Prim.Native.Nat.{_-_, _≤_}
 use native.Mathlib.Omega.{arith}
-use Rattle.divisor.specs.Moves.{Moving, moving-none, moving-counted, moving-turn, moving-more}
-use Rattle.divisor.proofs.fill.move_seats.Statement.{statement}
-use Rattle.divisor.proofs.fill.move_seats.Tie as tie
+use Rattle.divisor.specs.Moves.{Moving, moved-counted, moving-none, moving-turn, moving-more}
+use Rattle.divisor.proofs.moves.move_seats.Statement.{statement}
+use Rattle.divisor.proofs.moves.move_seats.Tie as tie
 
 abbrev Inv-loop : tie.InvT-loop
 Inv-loop method up populations times seats₀ tree₀ done₀ seats tree done =
@@ -17,14 +17,14 @@ abbrev μ-loop : tie.MeasureT-loop
 loop-holds : tie.Need-loop-holds Inv-loop μ-loop
 loop-holds c =
     let start = c .before .before .before in
-    (omega arith, moving-none _ (start .pre .0) (start .pre .1))
+    (omega arith, moving-none (start .pre .1))
 
 move-one-requires : tie.Need-move-one-requires Inv-loop μ-loop
 move-one-requires c κs =
     let test = c .before .before in
     let turn = test .before in
     let start = turn .before .before .before .before in
-    moving-turn _ (start .pre .0) (turn .loop .inv .1) (test .loop-test .taken)
+    moving-turn (turn .loop .inv .1) (start .pre .0) (test .loop-test .taken)
 
 add-done : tie.Need-add-done Inv-loop μ-loop
 add-done c =
@@ -45,14 +45,15 @@ loop-again c =
     let turn = test .before in
     let start = turn .before .before .before .before in (
       omega (arith, test .loop-test .taken),
-      moving-more _ (start .pre .0) (turn .loop .inv .1) (moved .move-one .ensures),
+      moving-more (turn .loop .inv .1) (moved .move-one .ensures),
     )
 
 same-length : tie.Need-same-length Inv-loop μ-loop
 same-length c =
     let turn = c .before in
     let start = turn .before .before .before .before in
-    moving-counted _ (start .pre .0) (turn .loop .inv .1) (turn .loop .inv .0) .sameLength ∙ sym (start .pre .0 .all .sameLength)
+    let all = moved-counted _ (start .pre .0) (turn .loop .done) (turn .loop .inv .0) (turn .loop .inv .1 .seats) in
+    all .sameLength ∙ sym (start .pre .0 .all .sameLength)
 
 same-length-2 : tie.Need-same-length-2 Inv-loop μ-loop
 same-length-2 c =

@@ -1,4 +1,4 @@
--- `divisor::moves::wants_before` is right because the theory's order is that of the two claims' products.
+-- `divisor::order::wants_before` is right because the theory's order is that of the two claims' products.
 -- Assumes nothing.
 use mathlib.Core.Path.{_∙_}
 use borrow.Author.Needs.{needs}
@@ -6,8 +6,8 @@ use Rattle.apportionment.specs.Quantities.{less}
 use Rattle.claims.specs.Order.{wantsBefore}
 use Rattle.claims.specs.DivisorClaims.{divisorTest}
 use Rattle.divisor.specs.Claims.{claimFor, held}
-use Rattle.divisor.proofs.moves.wants_before.Statement.{statement}
-use Rattle.divisor.proofs.moves.wants_before.Tie as tie
+use Rattle.divisor.proofs.order.wants_before.Statement.{statement}
+use Rattle.divisor.proofs.order.wants_before.Tie as tie
 
 mul-claim-of : tie.Need-mul-claim-of
 mul-claim-of c = search needs

@@ -1,4 +1,4 @@
--- `divisor::moves::gives_up_before` is right because its three tests are the theory's, one after the other.
+-- `divisor::order::gives_up_before` is right because its three tests are the theory's, one after the other.
 -- Assumes nothing.
 use native.Mathlib.Omega.{arith}
 use lib.ListN.{getD}
@@ -8,8 +8,8 @@ use Rattle.apportionment.specs.Quantities.{less}
 use Rattle.claims.specs.Order.{givesUpBefore}
 use Rattle.claims.specs.DivisorClaims.{divisorTest}
 use Rattle.divisor.specs.Claims.{one-less-counted, claimFor, held}
-use Rattle.divisor.proofs.moves.gives_up_before.Statement.{statement}
-use Rattle.divisor.proofs.moves.gives_up_before.Tie as tie
+use Rattle.divisor.proofs.order.gives_up_before.Statement.{statement}
+use Rattle.divisor.proofs.order.gives_up_before.Tie as tie
 
 mul-own-seats : tie.Need-mul-own-seats
 mul-own-seats c = search needs

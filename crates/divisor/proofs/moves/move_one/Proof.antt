@@ -1,10 +1,10 @@
--- `divisor::fill::move_one` is right because the root is the state that the theory moves, and its seats bear on no other's order.
+-- `divisor::moves::move_one` is right because the root is the state that the theory moves, and its seats bear on no other's order.
 -- Assumes nothing.
 use native.Mathlib.Omega.{arith}
 use borrow.Author.Needs.{needs}
 use Rattle.divisor.specs.Moves.{root-lt, root-within, root-moved, root-replays}
-use Rattle.divisor.proofs.fill.move_one.Statement.{statement}
-use Rattle.divisor.proofs.fill.move_one.Tie as tie
+use Rattle.divisor.proofs.moves.move_one.Statement.{statement}
+use Rattle.divisor.proofs.moves.move_one.Tie as tie
 
 slice-read-place : tie.Need-slice-read-place
 slice-read-place c = search needs
