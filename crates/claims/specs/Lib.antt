@@ -6,6 +6,9 @@ pub mod StandingOrder
 pub mod Fractions
 pub mod MachineWords
 pub mod Standing
+pub mod Tournament
+pub mod TournamentReplay
+pub mod TournamentOrders
 pub mod DivisorClaims
 pub mod DivisorOrder
 pub mod DivisorRounding

@@ -64,7 +64,7 @@ length-withdrawnTimes n lo lt xs (suc k) = length-withdrawn n lo lt (withdrawnTi
 -- ---- the first claim not met and the last one met
 
 -- State i gives up a seat before state j: it is above its fewest and, if j is too, i's last claim does not come first.
-gives-up : (lo : ℕ → ℕ) (lt : ClaimTest) (xs : List ℕ) (i j : ℕ) → givesUpBefore lo lt xs i j ≡ true
+pub gives-up : (lo : ℕ → ℕ) (lt : ClaimTest) (xs : List ℕ) (i j : ℕ) → givesUpBefore lo lt xs i j ≡ true
     → (lo i < getD xs i 0) × (lo j < getD xs j 0 → lt i (getD xs i 0 - 1) j (getD xs j 0 - 1) ≡ false)
 unfolding givesUpBefore
 gives-up lo lt xs i j e = by-test (ltb (lo i) (getD xs i 0)) (ltb (lo j) (getD xs j 0)) refl refl e
@@ -81,7 +81,7 @@ gives-up lo lt xs i j e = by-test (ltb (lo i) (getD xs i 0)) (ltb (lo j) (getD x
     by-test false u et eu c = absurd (false≢true c)
 
 -- State i does not give up a seat before state j, though it is above its fewest: j is too, and i's last claim comes first.
-keeps-seat : (lo : ℕ → ℕ) (lt : ClaimTest) (xs : List ℕ) (i j : ℕ) → givesUpBefore lo lt xs i j ≡ false → lo i < getD xs i 0
+pub keeps-seat : (lo : ℕ → ℕ) (lt : ClaimTest) (xs : List ℕ) (i j : ℕ) → givesUpBefore lo lt xs i j ≡ false → lo i < getD xs i 0
     → (lo j < getD xs j 0) × (lt i (getD xs i 0 - 1) j (getD xs j 0 - 1) ≡ true)
 unfolding givesUpBefore
 keeps-seat lo lt xs i j e above = by-test (ltb (lo j) (getD xs j 0)) refl (rw (lt-ltb (lo i) (getD xs i 0) above) at e)

@@ -1,7 +1,7 @@
 -- Claims as the code holds them, in two machine words: what they are, how they are compared, and that they fit.
 -- Assumes nothing.
 use mathlib.Core.Bool.{Bool}
-use Prim.Native.Nat.{ℕ, _+_, _*_, _≤_}
+use Prim.Native.Nat.{ℕ, _+_, _-_, _*_, _≤_}
 use native.Mathlib.Omega.{arith}
 use native.Mathlib.Nat.{le-refl, mul-le-mul}
 use lib.Dec.{ltb}
@@ -42,6 +42,9 @@ seatLimit = aimLimit + 1
 pub record Counted (p a : ℕ) : Type 0 where
   pub people : p ≤ sumLimit
   pub seats : a ≤ seatLimit
+
+pub one-less-counted : {p a : ℕ} → Counted p a → Counted p (a - 1)
+one-less-counted k = record { people = k .people; seats = omega (arith, k .seats) }
 
 -- The denominator of a claim: at most the square of the largest sum for Hill, and far less for the others.
 pub claim-fits : (m : Method) {p a : ℕ} → Counted p a → Fits w64 (weightOf m p * signpost m a .under)

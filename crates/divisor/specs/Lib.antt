@@ -1,5 +1,5 @@
 -- The divisor methods in machine words.
 pub mod Claims
-pub mod Scans
+pub mod Moves
 pub mod Rounding
 pub mod Steps

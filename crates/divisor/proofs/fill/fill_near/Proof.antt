@@ -12,38 +12,42 @@ fill-rounded-requires c κs = search needs
 aim-of-requires : tie.Need-aim-of-requires
 aim-of-requires c κs = search needs
 
-add-if1 : tie.Need-add-if1
-add-if1 c = search needs
-
-add-if2 : tie.Need-add-if2
-add-if2 c = search needs
+near-requires : tie.Need-near-requires
+near-requires c κs = search needs
 
 same-length : tie.Need-same-length
 same-length c = search needs
 
 returns : tie.Need-returns
 returns c =
-    let start = c .before .before .before .before .before .before .before .before .before in
-    let fill-rounded = c .before .before .before .before .before .fill-rounded in
-    record { aim = start .args .house; aimFits = omega (arith, start .pre .houseFits); filled = fill-rounded .ensures }
+    let aimed = c .before .before in
+    let first = aimed .before .before .before in
+    let start = first .before .before .before .before in
+    record { aim = start .args .house; aimFits = omega (arith, start .pre .houseFits); filled = first .fill-rounded .ensures }
 
 fill-rounded-requires-2 : tie.Need-fill-rounded-requires-2
 fill-rounded-requires-2 c κs =
-    let start = c .before .before .before .before .before .before .before .before .before in
-    let fill-rounded = c .before .before .before .before .before .fill-rounded in
-    let aim-of = c .before .before .aim-of in
-    (states-kept (start .pre .states) (fill-rounded .ensures), omega (arith, start .pre .houseFits, aim-of .ensures))
+    let aimed = c .before .before .before in
+    let first = aimed .before .before .before in
+    let start = first .before .before .before .before in (
+      states-kept (start .pre .states) (first .fill-rounded .ensures),
+      omega (arith, start .pre .houseFits, aimed .aim-of .ensures),
+    )
 
 same-length-2 : tie.Need-same-length-2
 same-length-2 c = search needs
 
 returns-2 : tie.Need-returns-2
 returns-2 c =
-    let aim-of = c .before .before .before .before .before .aim-of in
-    let start = c .before .before .before .before .before .before .before .before .before .before .before .before in
-    let fill-rounded2 = c .before .before .fill-rounded2 in
-    record
-    { aim = aim-of .result; aimFits = omega (arith, start .pre .houseFits, aim-of .ensures); filled = fill-rounded2 .ensures }
+    let second = c .before .before in
+    let aimed = second .before .before .before .before in
+    let first = aimed .before .before .before in
+    let start = first .before .before .before .before in
+    record {
+      aim = aimed .aim-of .result;
+      aimFits = omega (arith, start .pre .houseFits, aimed .aim-of .ensures);
+      filled = second .fill-rounded2 .ensures;
+    }
 
 pub fill-near-spec : {M : Type 1} → statement M
 fill-near-spec =
@@ -51,8 +55,7 @@ fill-near-spec =
     (tie.spec
     fill-rounded-requires
     aim-of-requires
-    add-if1
-    add-if2
+    near-requires
     same-length
     returns
     fill-rounded-requires-2

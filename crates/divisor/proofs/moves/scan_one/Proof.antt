@@ -1,0 +1,58 @@
+-- `divisor::moves::scan_one` is right because the state found is the first to move.
+-- Assumes nothing.
+use native.Mathlib.Omega.{arith}
+use borrow.Author.Needs.{needs}
+use Rattle.divisor.specs.Moves.{first-lt, moved-once}
+use Rattle.divisor.proofs.moves.scan_one.Statement.{statement}
+use Rattle.divisor.proofs.moves.scan_one.Tie as tie
+
+first-to-move-requires : tie.Need-first-to-move-requires
+first-to-move-requires c κs = search needs
+
+mul-moved : tie.Need-mul-moved
+mul-moved c =
+    let start = c .before .before .before .before in
+    omega (arith, first-lt _ _ (start .pre) (c .first-to-move .ensures))
+
+slice-read-moved : tie.Need-slice-read-moved
+slice-read-moved c =
+    let found = c .before in
+    let start = found .before .before .before .before in
+    first-lt _ _ (start .pre) (found .first-to-move .ensures) .1
+
+moved-requires : tie.Need-moved-requires
+moved-requires c κs =
+    let found = c .before in
+    let start = found .before .before .before .before in
+    omega (arith, start .pre .counted _ (first-lt _ _ (start .pre) (found .first-to-move .ensures) .0) .seats)
+
+mul-seats : tie.Need-mul-seats
+mul-seats c =
+    let found = c .before .before in
+    let start = found .before .before .before .before in
+    omega (arith, first-lt _ _ (start .pre) (found .first-to-move .ensures))
+
+slice-write-seats : tie.Need-slice-write-seats
+slice-write-seats c =
+    let found = c .before .before in
+    let start = found .before .before .before .before in
+    first-lt _ _ (start .pre) (found .first-to-move .ensures) .1
+
+same-length : tie.Need-same-length
+same-length c = search needs
+
+returns : tie.Need-returns
+returns c = moved-once _ _ _ _ (c .before .before .first-to-move .ensures) (c .moved .ensures)
+
+pub scan-one-spec : {M : Type 1} → statement M
+scan-one-spec =
+    tie.close
+    (tie.spec
+    first-to-move-requires
+    mul-moved
+    slice-read-moved
+    moved-requires
+    mul-seats
+    slice-write-seats
+    same-length
+    returns)

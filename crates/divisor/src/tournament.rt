@@ -1,0 +1,81 @@
+// The tournament of states: a leaf for each, and at each inner place the one of its two that moves first. The root is the next to move.
+use crate::order::better_of;
+use apportionment::Method;
+ghost use mathlib.Core.Path.{_≡_};
+ghost use Prim.Native.Nat.{_*_, _<_};
+ghost use lib.ListN.{length};
+ghost use Rattle.claims.specs.TournamentReplay.{Planted, Decidable, beside};
+ghost use Rattle.divisor.specs.Moves.{AllCounted, Decided, Replays, Played};
+
+// Puts each state at its leaf.
+pub fn plant(states: usize, tree: &mut [usize])
+    requires { ⌜ length (now tree) ≡ 2 * states ⌝ }
+    ensures { λ _. ⌜ Planted states states (now (tree .exit)) ⌝ }
+{
+    let mut i = 0;
+    while i < states {
+        tree[states + i] = i;
+        i += 1;
+    }
+}
+
+// Decides an inner place: of the two below it, the one that moves first.
+fn decide(
+    method: Method,
+    up: bool,
+    populations: &[u64],
+    seats: &[u64],
+    k: usize,
+    tree: &mut [usize],
+)
+    requires { ⌜ AllCounted (now populations) (now seats) × Decidable (length (now populations)) k (now tree) ⌝ }
+    ensures { λ _. ⌜ Decided method up (now (populations .entry)) (now (seats .entry)) k (now (tree .entry)) (now (tree .exit)) ⌝ }
+{
+    let won = better_of(method, up, populations, seats, tree[2 * k], tree[2 * k + 1]);
+    tree[k] = won;
+}
+
+// Decides every inner place, from the last to the root.
+pub fn build(method: Method, up: bool, populations: &[u64], seats: &[u64], tree: &mut [usize])
+    requires { ⌜ AllCounted (now populations) (now seats) × Planted (length (now populations)) (length (now populations)) (now tree) ⌝ }
+    ensures { λ _. ⌜ Played method up (now (populations .entry)) (now (seats .entry)) (now (tree .exit)) ⌝ }
+{
+    let mut k = populations.len() - 1;
+    while k > 0 {
+        decide(method, up, populations, seats, k, tree);
+        k -= 1;
+    }
+}
+
+// The place beside k: the two meet at the place half as far.
+fn beside_of(k: usize) -> usize
+    requires { ⌜ k < 18446744073709551615 ⌝ }
+    ensures { λ r. ⌜ r ≡ beside k ⌝ }
+{
+    if k % 2 == 0 {
+        return k + 1;
+    }
+    k - 1
+}
+
+// Decides anew the places on the way up from the leaf of a state whose seats have changed, with the winner so far in hand.
+pub fn replay(
+    method: Method,
+    up: bool,
+    populations: &[u64],
+    seats: &[u64],
+    place: usize,
+    tree: &mut [usize],
+)
+    requires { ⌜ AllCounted (now populations) (now seats) × Replays method up (now populations) (now seats) place (now tree) ⌝ }
+    ensures { λ _. ⌜ Played method up (now (populations .entry)) (now (seats .entry)) (now (tree .exit)) ⌝ }
+{
+    let mut won = place;
+    let mut k = populations.len() + place;
+    while k > 1 {
+        let other = beside_of(k);
+        won = better_of(method, up, populations, seats, won, tree[other]);
+        k /= 2;
+        tree[k] = won;
+    }
+}
