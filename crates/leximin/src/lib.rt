@@ -5,3 +5,4 @@ pub mod scan;
 pub mod settle;
 pub mod sizes;
 pub mod start;
+pub mod tournament;
