@@ -3,24 +3,29 @@
 use mathlib.Core.Path.{_≡_, refl, _∙_}
 use mathlib.Core.Bool.{Bool, true, false, cond}
 use mathlib.Core.List.{List}
-use Prim.Native.Nat.{ℕ, _+_, _-_, _<_, _≤_}
+use mathlib.Core.Logic.{⊎-elim}
+use Prim.Native.Nat.{ℕ, zero, suc, _+_, _-_, _<_, _≤_, zero-le}
 use native.Mathlib.Omega.{arith}
-use native.Mathlib.Nat.{le-trans}
+use native.Mathlib.Nat.{le-refl, le-trans}
 use native.Mathlib.Numerals.{add-one}
 use lib.ListN.{length, getD, set}
 use Rattle.apportionment.specs.Divisor.{oneMore}
-use Rattle.apportionment.specs.Limits.{houseLimit, stateLimit}
+use Rattle.apportionment.specs.Limits.{houseLimit}
 use Rattle.apportionment.specs.Lists.{sum, entry-at-most-sum, firstPlace}
-use Rattle.claims.specs.Order.{Standing, firstUnmet, lastMet, placed, placedTimes, oneLess, withdrawn, withdrawnTimes}
+use Rattle.apportionment.specs.Leximin.{startSeats}
+use Rattle.claims.specs.Order.{ClaimTest, firstUnmet, lastMet, placed, placedTimes, oneLess, withdrawn, withdrawnTimes}
 use Rattle.claims.specs.Standing.{firstUnmet-lt, lastMet-lt, length-placedTimes, sum-placedTimes, placedTimes-standing}
 use Rattle.claims.specs.Standing.{length-withdrawnTimes, withdrawnTimes-standing}
-use Rattle.claims.specs.StandingMoves.{sum-listOf-one}
+use Rattle.claims.specs.StandingMoves.{sum-listOf-one, at-oneMore}
+use Rattle.claims.specs.StartSeats.{length-start, start-at, start-standing}
 use Rattle.claims.specs.DivisorSeats.{withdrawn-at-most}
 use Rattle.claims.specs.SizeClaims.{Sound, sizeTest, oneEach}
 use Rattle.claims.specs.SizeOrder.{size-order}
 use Rattle.claims.specs.Tournament.{winner-lt, root-is-first}
 use Rattle.claims.specs.TournamentReplay.{replaying-start}
-use Rattle.leximin.specs.Scan.{Workable, Seated}
+use Rattle.leximin.specs.Scan.{Workable}
+use Rattle.leximin.specs.Start.{Ready, ready-sound, ready-counts, start-workable}
+use Rattle.leximin.specs.Quotients.{Sided}
 use Rattle.leximin.specs.Tournament.{movesBefore, Champions, Moved, moves-pass, moves-agree}
 
 -- So many seats moved: placed where `up` is true, and withdrawn otherwise.
@@ -37,51 +42,82 @@ abbrev pub Room : (up : Bool) (n : ℕ) (xs : List ℕ) (times : ℕ) → Type 0
 Room true n xs times = sum xs + times ≤ houseLimit
 Room false n xs times = n + times ≤ sum xs
 
--- Seats of which so many can be moved.
+-- The start, of which so many seats can be moved.
 pub record Movable (up : Bool) (ps xs : List ℕ) (P H times : ℕ) : Type 0 where
-  pub workable : Workable ps xs P H
-  pub sound : Sound ps H
-  pub standing : Standing (length ps) oneEach (sizeTest ps H) xs
-  pub statesFit : length ps ≤ stateLimit
+  pub ready : Ready ps P H
+  pub begun : xs ≡ startSeats ps H
   pub room : Room up (length ps) xs times
 
-pub movable-seated : {up : Bool} {ps xs : List ℕ} {P H times : ℕ} → Movable up ps xs P H times → Seated ps xs P H
-movable-seated m = record { workable = m .workable; least = m .standing .least }
+-- Placing takes no seat from a state.
+placed-at-least : (lt : ClaimTest) (n : ℕ) (xs : List ℕ) → 0 < n → length xs ≡ n → (k i : ℕ)
+    → getD xs i 0 ≤ getD (placedTimes lt n xs k) i 0
+unfolding placedTimes placed
+placed-at-least lt n xs some states zero i = le-refl (getD xs i 0)
+placed-at-least lt n xs some states (suc k) i =
+    let ys = placedTimes lt n xs k in
+    let inside : firstUnmet lt n ys < length ys = rw (length-placedTimes n lt xs k ∙ states) (firstUnmet-lt n lt ys some) in
+    let before = placed-at-least lt n xs some states k i in
+    ⊎-elim (λ h. omega (arith, h .1, before)) (λ h. omega (arith, h .1, before)) (at-oneMore ys (firstUnmet lt n ys) i inside)
 
--- Each move leaves seats that a move can be made with.
-pub moved-seated : {ps xs : List ℕ} {P H times : ℕ} (up : Bool) → Movable up ps xs P H times → (k : ℕ) → k ≤ times
-    → Seated ps (movedTimes up ps H xs k) P H
+-- ---- each move leaves seats that a move can be made with
+
+module _ {ps : List ℕ} {P H : ℕ} (r : Ready ps P H) (k : ℕ) where
+  abbrev n : ℕ
+  n = length ps
+
+  abbrev lt : ClaimTest
+  lt = sizeTest ps H
+
+  abbrev start : List ℕ
+  start = startSeats ps H
+
+  s : Sound ps H
+  s = ready-sound r
+
+  placed-sided : sum (startSeats ps H) + k ≤ houseLimit → Sided true ps (placedTimes (sizeTest ps H) (length ps) (startSeats ps H) k) P H
+  placed-sided room =
+      record {
+        seated =
+            record {
+              workable =
+                  record {
+                    counts = ready-counts r;
+                    someState = s .someState;
+                    states = length-placedTimes n lt start k ∙ length-start ps H;
+                    seatsFit = λ i. le-trans (entry-at-most-sum (placedTimes lt n start k) i)
+                        (rw (sum-placedTimes n lt start k (s .someState) (length-start ps H)) room);
+                  };
+              least = placedTimes-standing n oneEach lt (size-order s) start k (s .someState) (start-standing s) .least;
+            };
+        sound = s;
+        side = λ i inside. rw (← start-at ps H i inside) (placed-at-least lt n start (s .someState) (length-start ps H) k i);
+      }
+
+  withdrawn-sided : length ps + k ≤ sum (startSeats ps H)
+      → Sided false ps (withdrawnTimes oneEach (sizeTest ps H) (length ps) (startSeats ps H) k) P H
+  withdrawn-sided room =
+      record {
+        seated =
+            record {
+              workable =
+                  record {
+                    counts = ready-counts r;
+                    someState = s .someState;
+                    states = length-withdrawnTimes n oneEach lt start k ∙ length-start ps H;
+                    seatsFit = λ i. le-trans (withdrawn-at-most oneEach lt n start k i) (start-workable r .seatsFit i);
+                  };
+              least = withdrawnTimes-standing n oneEach lt (size-order s) start k (s .someState) (start-standing s)
+                  (rw (sum-listOf-one n) room) .least;
+            };
+        sound = s;
+        side = λ i inside. rw (← start-at ps H i inside) (withdrawn-at-most oneEach lt n start k i);
+      }
+
+pub moved-sided : {ps xs : List ℕ} {P H times : ℕ} (up : Bool) → Movable up ps xs P H times → (k : ℕ) → k ≤ times
+    → Sided up ps (movedTimes up ps H xs k) P H
 unfolding movedTimes
-moved-seated {ps} {xs} {P} {H} true m k h =
-    record {
-      workable =
-          record {
-            counts = m .workable .counts;
-            someState = m .workable .someState;
-            states = length-placedTimes (length ps) (sizeTest ps H) xs k ∙ m .workable .states;
-            seatsFit =
-                λ i.
-                le-trans (entry-at-most-sum (placedTimes (sizeTest ps H) (length ps) xs k) i)
-                (rw (sum-placedTimes (length ps) (sizeTest ps H) xs k (m .workable .someState) (m .workable .states)) (omega (arith, m .room)));
-          };
-      least =
-          placedTimes-standing (length ps) oneEach (sizeTest ps H) (size-order (m .sound)) xs k (m .workable .someState) (m .standing)
-          .least;
-    }
-moved-seated {ps} {xs} {P} {H} false m k h =
-    record {
-      workable =
-          record {
-            counts = m .workable .counts;
-            someState = m .workable .someState;
-            states = length-withdrawnTimes (length ps) oneEach (sizeTest ps H) xs k ∙ m .workable .states;
-            seatsFit =
-                λ i. le-trans (withdrawn-at-most oneEach (sizeTest ps H) (length ps) xs k i) (m .workable .seatsFit i);
-          };
-      least =
-          withdrawnTimes-standing (length ps) oneEach (sizeTest ps H) (size-order (m .sound)) xs k (m .workable .someState) (m .standing)
-          (rw (sum-listOf-one (length ps)) (omega (arith, m .room))) .least;
-    }
+moved-sided true m k h = rw (m .begun) (placed-sided (m .ready) k (omega (arith, rw (m .begun) at (m .room))))
+moved-sided false m k h = rw (m .begun) (withdrawn-sided (m .ready) k (omega (arith, rw (m .begun) at (m .room))))
 
 -- ---- moves by a tournament
 
@@ -95,6 +131,9 @@ unfolding movedTimes placedTimes withdrawnTimes
 none-moved true ps H xs = refl
 none-moved false ps H xs = refl
 
+pub movable-sided : {up : Bool} {ps xs : List ℕ} {P H times : ℕ} → Movable up ps xs P H times → Sided up ps xs P H
+movable-sided {up} {ps} {xs} {P} {H} m = rw (none-moved up ps H xs) (moved-sided up m 0 zero-le)
+
 -- One more move is one by the state that a scan picks.
 one-more-moved : (up : Bool) (ps : List ℕ) (H : ℕ) (xs : List ℕ) (k : ℕ)
     → let ys = movedTimes up ps H xs k in
@@ -104,26 +143,26 @@ unfolding movedTimes movedBy movesBefore placedTimes placed oneMore firstUnmet w
 one-more-moved true ps H xs k = rw (add-one k)
 one-more-moved false ps H xs k = rw (add-one k)
 
-module _ {up : Bool} {ps xs₀ xs t : List ℕ} {P H times done : ℕ} (m : Movable up ps xs₀ P H times) (so-far : Moving up ps xs₀ H done xs t) where
-  pub moving-seated : done ≤ times → Seated ps xs P H
-  moving-seated h = rw (so-far .seats) (moved-seated up m done h)
+module _ {up : Bool} {ps xs₀ xs t : List ℕ} {P H times done : ℕ}
+    (m : Movable up ps xs₀ P H times) (so-far : Moving up ps xs₀ H done xs t) where
+  pub moving-sided : done ≤ times → Sided up ps xs P H
+  moving-sided h = rw (so-far .seats) (moved-sided up m done h)
 
   pub root-inside : getD t 1 0 < length ps
-  root-inside = winner-lt (so-far .winners) 1 (omega arith) (omega (arith, m .workable .someState))
+  root-inside = winner-lt (so-far .winners) 1 (omega arith) (omega (arith, m .ready .problem .someState))
 
   pub root-has-seats : done ≤ times → getD t 1 0 < length xs
-  root-has-seats h = rw (moving-seated h .workable .states) root-inside
+  root-has-seats h = rw (moving-sided h .seated .workable .states) root-inside
 
   module _ {v : ℕ} (move : v ≡ movedBy up (getD xs (getD t 1 0) 0)) (left : done < times) where
     -- The state at the root makes the move.
     pub root-moved : set xs (getD t 1 0) v ≡ movedTimes up ps H xs₀ (done + 1)
     root-moved =
-        let w = moving-seated (omega arith) in
-        let first = root-is-first (so-far .winners) (moves-pass up (m .sound) w) (m .workable .someState) in
+        let first = root-is-first (so-far .winners) (moves-pass up (moving-sided (omega arith))) (m .ready .problem .someState) in
         rw (one-more-moved up ps H xs₀ done, ← so-far .seats, ← first) (rw move)
 
-    pub next-seated : Seated ps (set xs (getD t 1 0) v) P H
-    next-seated = rw root-moved (moved-seated up m (done + 1) (omega arith))
+    pub next-sided : Sided up ps (set xs (getD t 1 0) v) P H
+    next-sided = rw root-moved (moved-sided up m (done + 1) (omega arith))
 
     pub next-due : Moved up ps H (set xs (getD t 1 0) v) (getD t 1 0) t
     next-due =

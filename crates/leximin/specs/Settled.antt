@@ -1,7 +1,7 @@
 -- From the start to the house: the moves end at the leximin allotment of the house, and there are as many as the gap.
 -- Assumes nothing.
-use mathlib.Core.Path.{_≡_, sym, _∙_}
-use mathlib.Core.Bool.{Bool, true, false, cond}
+use mathlib.Core.Path.{_≡_, refl, sym, _∙_}
+use mathlib.Core.Bool.{true, false, cond}
 use mathlib.Core.List.{List}
 use Prim.Native.Nat.{ℕ, _+_, _-_, _<_, _≤_}
 use native.Mathlib.Omega.{arith}
@@ -12,13 +12,12 @@ use Rattle.apportionment.specs.Quantities.{distance}
 use Rattle.apportionment.specs.Leximin.{leximinFor, startSeats, startTotal, gap}
 use Rattle.claims.specs.Order.{placedTimes, withdrawnTimes, endsApart, comes, firstUnmet, lastMet}
 use Rattle.claims.specs.SizeClaims.{sizeTest, oneEach}
-use Rattle.claims.specs.StartSeats.{start-standing}
 use Rattle.claims.specs.LeximinSteps.{lexMoved, last-step-leximin}
 use Rattle.problem.specs.Total.{cappedTotal, total-is-sum}
 use Rattle.leximin.specs.Sizes.{MoveIs, lessMove}
 use Rattle.leximin.specs.Scan.{Seated, claims-compared}
-use Rattle.leximin.specs.Start.{Ready, ready-sound, start-workable, start-total-fits}
-use Rattle.leximin.specs.Moves.{movedTimes, Room, Movable}
+use Rattle.leximin.specs.Start.{Ready, ready-sound, start-total-fits}
+use Rattle.leximin.specs.Moves.{movedTimes, Movable}
 use Rattle.leximin.specs.declared.sizes.Move.{Move}
 
 -- What filling hands back: the leximin allotment of the house, and the gap between the start and the house.
@@ -55,24 +54,13 @@ module _ {ps : List ℕ} {P H : ℕ} (r : Ready ps P H) where
     total : start ≡ startTotal ps H
     total = start-added begun added
 
-    can-move : (up : Bool) (times : ℕ) → Room up (length ps) (startSeats ps H) times → Movable up ps xs P H times
-    can-move up times room =
-        rw begun
-        (record {
-          workable = start-workable r;
-          sound = ready-sound r;
-          standing = start-standing (ready-sound r);
-          statesFit = r .problem .statesWithin;
-          room = room;
-        })
-
     pub can-place : start < H → Movable true ps xs P H (H - start)
     unfolding startTotal
-    can-place h = can-move true (H - start) (omega (arith, total, r .problem .houseWithin))
+    can-place h = rw begun (record { ready = r; begun = refl; room = omega (arith, total, r .problem .houseWithin) })
 
     pub can-withdraw : length ps ≤ H → H ≤ start → Movable false ps xs P H (start - H)
     unfolding startTotal
-    can-withdraw fits h = can-move false (start - H) (omega (arith, total))
+    can-withdraw fits h = rw begun (record { ready = r; begun = refl; room = omega (arith, total) })
 
     pub placed-settled : {ys : List ℕ} → length ps ≤ H → start < H → ys ≡ movedTimes true ps H xs (H - start)
         → Settled ps H ys (H - start)

@@ -1,18 +1,17 @@
--- The tournament among the states: by what it decides between two of them, and what its functions ask and hand back. A move places a
--- seat where `up` is true, and withdraws one otherwise.
+-- The tournament among the states: how it decides between two of them, and what its functions ask and hand back. A move places a seat
+-- where `up` is true, and withdraws one otherwise.
 -- Assumes nothing.
-use mathlib.Core.Path.{_≡_}
 use mathlib.Core.Bool.{Bool, true, false, cond}
 use mathlib.Core.List.{List}
-use Prim.Native.Nat.{ℕ, _+_, _-_, _/_, _<_}
-use lib.ListN.{length, getD, set}
+use Prim.Native.Nat.{ℕ, _+_, _/_, _<_}
+use lib.ListN.{length, set}
 use Rattle.claims.specs.Order.{wantsBefore, givesUpBefore}
-use Rattle.claims.specs.SizeClaims.{Sound, sizeTest, oneEach}
+use Rattle.claims.specs.SizeClaims.{sizeTest, oneEach}
 use Rattle.claims.specs.SizeOrder.{size-order}
 use Rattle.claims.specs.Tournament.{better, Passes, Winners}
 use Rattle.claims.specs.TournamentReplay.{Replaying, AgreeBut}
 use Rattle.claims.specs.TournamentOrders.{wants-passes, gives-passes, wants-agree, gives-agree}
-use Rattle.leximin.specs.Scan.{Seated}
+use Rattle.leximin.specs.Quotients.{Sided}
 
 -- State i moves rather than state j.
 unfoldable pub movesBefore : (up : Bool) (ps : List ℕ) (H : ℕ) (xs : List ℕ) → ℕ → ℕ → Bool
@@ -23,9 +22,8 @@ abbrev pub betterState : (up : Bool) (ps : List ℕ) (H : ℕ) (xs : List ℕ) �
 betterState up ps H xs = better (movesBefore up ps H xs)
 
 -- Two states of the list.
-pub record Pair (ps : List ℕ) (i j : ℕ) : Type 0 where
-  pub first : i < length ps
-  pub second : j < length ps
+abbrev pub Pair : (ps : List ℕ) (i j : ℕ) → Type 0
+Pair ps i j = (i < length ps) × (j < length ps)
 
 -- Every place of the tournament is right.
 abbrev pub Champions : (up : Bool) (ps : List ℕ) (H : ℕ) (xs t : List ℕ) → Type 0
@@ -37,10 +35,10 @@ pub record Moved (up : Bool) (ps : List ℕ) (H : ℕ) (xs : List ℕ) (j : ℕ)
   pub due : Replaying (movesBefore up ps H xs) (length ps) ((length ps + j) / 2) t
 
 -- The order is one for a tournament, and a state's seats bear on no other states' order.
-pub moves-pass : {ps xs : List ℕ} {P H : ℕ} (up : Bool) → Sound ps H → Seated ps xs P H → Passes (length ps) (movesBefore up ps H xs)
+pub moves-pass : {ps xs : List ℕ} {P H : ℕ} (up : Bool) → Sided up ps xs P H → Passes (length ps) (movesBefore up ps H xs)
 unfolding movesBefore
-moves-pass {ps} {xs} true s w = wants-passes (size-order s) xs (w .least)
-moves-pass {ps} {xs} false s w = gives-passes (size-order s) xs
+moves-pass {ps} {xs} true s = wants-passes (size-order (s .sound)) xs (s .seated .least)
+moves-pass {ps} {xs} false s = gives-passes (size-order (s .sound)) xs
 
 pub moves-agree : (up : Bool) (ps : List ℕ) (H : ℕ) (xs : List ℕ) (j v : ℕ)
     → AgreeBut j (movesBefore up ps H xs) (movesBefore up ps H (set xs j v))

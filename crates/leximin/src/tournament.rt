@@ -1,15 +1,16 @@
-// A tournament among the states: at its root stands the state that moves next, and a move is made up for on one way up.
+// A tournament among the states: the state that moves next stands at its root, and a move is made good on one way up.
 // A move places a seat where `up` is true, and withdraws one otherwise.
-use crate::sizes::move_less;
-use crate::sizes::move_of;
+use crate::quotients::climbs_before;
+use crate::quotients::falls_before;
 ghost use mathlib.Core.Path.{_≡_};
-ghost use Prim.Native.Nat.{_+_, _*_, _/_, _<_};
+ghost use mathlib.Core.Bool.{true, false};
+ghost use Prim.Native.Nat.{_*_};
 ghost use lib.ListN.{length};
 ghost use Rattle.claims.specs.Order.{wantsBefore, givesUpBefore};
 ghost use Rattle.claims.specs.SizeClaims.{sizeTest, oneEach};
 ghost use Rattle.claims.specs.TournamentReplay.{Planted};
-ghost use Rattle.leximin.specs.Scan.{Seated};
-ghost use Rattle.leximin.specs.Tournament.{movesBefore, betterState, Pair, Moved, Champions};
+ghost use Rattle.leximin.specs.Quotients.{Sided};
+ghost use Rattle.leximin.specs.Tournament.{Pair, movesBefore, betterState, Champions, Moved};
 
 // State i's next claim comes before state j's.
 fn wants_before(
@@ -20,12 +21,17 @@ fn wants_before(
     i: usize,
     j: usize,
 ) -> bool
-    requires { ⌜ Seated (now populations) (now seats) total house × Pair (now populations) i j ⌝ }
+    requires { ⌜ Sided true (now populations) (now seats) total house × Pair (now populations) i j ⌝ }
     ensures { λ r. ⌜ r ≡ wantsBefore (sizeTest (now (populations .entry)) house) (now (seats .entry)) i j ⌝ }
 {
-    let own = move_of(populations[i], seats[i], total, house);
-    let other = move_of(populations[j], seats[j], total, house);
-    move_less(own, other)
+    climbs_before(
+        populations[i],
+        seats[i],
+        populations[j],
+        seats[j],
+        total,
+        house,
+    )
 }
 
 // State i gives up a seat rather than state j: only with one to spare, and then unless its last claim comes before the other's.
@@ -37,7 +43,7 @@ fn gives_before(
     i: usize,
     j: usize,
 ) -> bool
-    requires { ⌜ Seated (now populations) (now seats) total house × Pair (now populations) i j ⌝ }
+    requires { ⌜ Sided false (now populations) (now seats) total house × Pair (now populations) i j ⌝ }
     ensures { λ r. ⌜ r ≡ givesUpBefore oneEach (sizeTest (now (populations .entry)) house) (now (seats .entry)) i j ⌝ }
 {
     let a = seats[i];
@@ -48,9 +54,7 @@ fn gives_before(
     if b <= 1 {
         return true;
     }
-    let own = move_of(populations[i], a - 1, total, house);
-    let other = move_of(populations[j], b - 1, total, house);
-    !move_less(own, other)
+    !falls_before(populations[i], a - 1, populations[j], b - 1, total, house)
 }
 
 // State i moves rather than state j.
@@ -63,7 +67,7 @@ fn moves_before(
     i: usize,
     j: usize,
 ) -> bool
-    requires { ⌜ Seated (now populations) (now seats) total house × Pair (now populations) i j ⌝ }
+    requires { ⌜ Sided up (now populations) (now seats) total house × Pair (now populations) i j ⌝ }
     ensures { λ r. ⌜ r ≡ movesBefore up (now (populations .entry)) house (now (seats .entry)) i j ⌝ }
 {
     if up {
@@ -82,7 +86,7 @@ fn better(
     i: usize,
     j: usize,
 ) -> usize
-    requires { ⌜ Seated (now populations) (now seats) total house × Pair (now populations) i j ⌝ }
+    requires { ⌜ Sided up (now populations) (now seats) total house × Pair (now populations) i j ⌝ }
     ensures { λ r. ⌜ r ≡ betterState up (now (populations .entry)) house (now (seats .entry)) i j ⌝ }
 {
     if i < j {
@@ -118,7 +122,7 @@ pub fn build(
     house: u64,
     tree: &mut [usize],
 )
-    requires { ⌜ Seated (now populations) (now seats) total house × (length (now tree) ≡ 2 * length (now populations)) ⌝ }
+    requires { ⌜ Sided up (now populations) (now seats) total house × (length (now tree) ≡ 2 * length (now populations)) ⌝ }
     ensures { λ _. ⌜ Champions up (now (populations .entry)) house (now (seats .entry)) (now (tree .exit)) ⌝ }
 {
     plant(populations.len(), &mut tree[..]);
@@ -147,7 +151,7 @@ pub fn replay(
     state: usize,
     tree: &mut [usize],
 )
-    requires { ⌜ Seated (now populations) (now seats) total house × Moved up (now populations) house (now seats) state (now tree) ⌝ }
+    requires { ⌜ Sided up (now populations) (now seats) total house × Moved up (now populations) house (now seats) state (now tree) ⌝ }
     ensures { λ _. ⌜ Champions up (now (populations .entry)) house (now (seats .entry)) (now (tree .exit)) ⌝ }
 {
     let mut k = (populations.len() + state) / 2;

@@ -5,12 +5,14 @@ use mathlib.Core.Path.{_≡_, refl, sym, _∙_}
 use Prim.Native.Nat.{_≤_, _-_}
 use native.Mathlib.Omega.{arith}
 use native.Mathlib.Nat.{le-antisymm}
-use Rattle.leximin.specs.Moves.{Moving, none-moved, movable-seated, moving-seated, root-inside, root-has-seats, root-moved, next-seated, next-due}
+use Rattle.leximin.specs.Moves.{Moving, none-moved, movable-sided, moving-sided}
+use Rattle.leximin.specs.Moves.{root-inside, root-has-seats, root-moved, next-sided, next-due}
 use Rattle.leximin.proofs.moves.move_by_tournament.Statement.{statement}
 use Rattle.leximin.proofs.moves.move_by_tournament.Tie as tie
 
 abbrev Inv-loop : tie.InvT-loop
-Inv-loop up populations seats₀ total house times tree₀ done₀ seats tree done = (done ≤ times) × Moving up populations seats₀ house done seats tree
+Inv-loop up populations seats₀ total house times tree₀ done₀ seats tree done =
+    (done ≤ times) × Moving up populations seats₀ house done seats tree
 
 abbrev μ-loop : tie.MeasureT-loop
 μ-loop up populations seats₀ total house times tree₀ done₀ seats tree done = times - done
@@ -18,7 +20,7 @@ abbrev μ-loop : tie.MeasureT-loop
 build-requires : tie.Need-build-requires Inv-loop μ-loop
 build-requires c κs =
     let start = c .before .before .before .before .before in
-    (movable-seated (start .pre .0), start .pre .1)
+    (movable-sided (start .pre .0), start .pre .1)
 
 loop-holds : tie.Need-loop-holds Inv-loop μ-loop
 loop-holds c = (search needs, record { seats = none-moved _ _ _ _; winners = c .before .before .build .ensures })
@@ -28,14 +30,14 @@ slice-read-state c =
     let at-loop = c .before .before in
     let at-build-arg = at-loop .before .before .before .before .before in
     let start = at-build-arg .before .before .before .before in
-    omega (arith, at-loop .loop .inv .1 .winners .size, start .pre .0 .workable .someState)
+    omega (arith, at-loop .loop .inv .1 .winners .size, start .pre .0 .ready .problem .someState)
 
 mul-moved-by : tie.Need-mul-moved-by Inv-loop μ-loop
 mul-moved-by c =
     let at-loop = c .before .before in
     let at-build-arg = at-loop .before .before .before .before .before in
     let start = at-build-arg .before .before .before .before in
-    omega (arith, root-inside (start .pre .0) (at-loop .loop .inv .1), start .pre .0 .statesFit)
+    omega (arith, root-inside (start .pre .0) (at-loop .loop .inv .1), start .pre .0 .ready .problem .statesWithin)
 
 slice-read-moved-by : tie.Need-slice-read-moved-by Inv-loop μ-loop
 slice-read-moved-by c =
@@ -49,14 +51,15 @@ moved-by-requires c κs =
     let at-loop = c .before .before .before in
     let at-build-arg = at-loop .before .before .before .before .before in
     let start = at-build-arg .before .before .before .before in
-    let w = moving-seated (start .pre .0) (at-loop .loop .inv .1) (at-loop .loop .inv .0) in (w .least _ (root-inside (start .pre .0) (at-loop .loop .inv .1)), w .workable .seatsFit _)
+    let now = moving-sided (start .pre .0) (at-loop .loop .inv .1) (at-loop .loop .inv .0) in
+    (now .seated .least _ (root-inside (start .pre .0) (at-loop .loop .inv .1)), now .seated .workable .seatsFit _)
 
 mul-seats : tie.Need-mul-seats Inv-loop μ-loop
 mul-seats c =
     let at-loop = c .before .before .before .before in
     let at-build-arg = at-loop .before .before .before .before .before in
     let start = at-build-arg .before .before .before .before in
-    omega (arith, root-inside (start .pre .0) (at-loop .loop .inv .1), start .pre .0 .statesFit)
+    omega (arith, root-inside (start .pre .0) (at-loop .loop .inv .1), start .pre .0 .ready .problem .statesWithin)
 
 slice-write-seats : tie.Need-slice-write-seats Inv-loop μ-loop
 slice-write-seats c =
@@ -71,8 +74,10 @@ replay-requires c κs =
     let at-loop-test = at-moved-by .before .before .before in
     let at-loop = at-loop-test .before in
     let at-build-arg = at-loop .before .before .before .before .before in
-    let start = at-build-arg .before .before .before .before in
-    (next-seated (start .pre .0) (at-loop .loop .inv .1) (at-moved-by .moved-by .ensures) (at-loop-test .loop-test .taken), next-due (start .pre .0) (at-loop .loop .inv .1) (at-moved-by .moved-by .ensures) (at-loop-test .loop-test .taken))
+    let start = at-build-arg .before .before .before .before in (
+      next-sided (start .pre .0) (at-loop .loop .inv .1) (at-moved-by .moved-by .ensures) (at-loop-test .loop-test .taken),
+      next-due (start .pre .0) (at-loop .loop .inv .1) (at-moved-by .moved-by .ensures) (at-loop-test .loop-test .taken),
+    )
 
 add-done : tie.Need-add-done Inv-loop μ-loop
 add-done c = search needs
@@ -87,14 +92,20 @@ loop-again c =
     let at-loop-test = at-moved-by .before .before .before in
     let at-loop = at-loop-test .before in
     let at-build-arg = at-loop .before .before .before .before .before in
-    let start = at-build-arg .before .before .before .before in
-    (omega (arith, at-loop-test .loop-test .taken), record { seats = root-moved (start .pre .0) (at-loop .loop .inv .1) (at-moved-by .moved-by .ensures) (at-loop-test .loop-test .taken); winners = at-replay .replay .ensures })
+    let start = at-build-arg .before .before .before .before in (
+      omega (arith, at-loop-test .loop-test .taken),
+      record {
+        seats = root-moved (start .pre .0) (at-loop .loop .inv .1) (at-moved-by .moved-by .ensures) (at-loop-test .loop-test .taken);
+        winners = at-replay .replay .ensures;
+      },
+    )
 
 same-length : tie.Need-same-length Inv-loop μ-loop
 same-length c =
     let at-build-arg2 = c .before .before .before .before .before in
     let start = at-build-arg2 .before .before .before .before .before in
-    moving-seated (start .pre .0) (c .before .loop .inv .1) (c .before .loop .inv .0) .workable .states ∙ sym (start .pre .0 .workable .states)
+    moving-sided (start .pre .0) (c .before .loop .inv .1) (c .before .loop .inv .0) .seated .workable .states
+    ∙ sym (movable-sided (start .pre .0) .seated .workable .states)
 
 same-length-2 : tie.Need-same-length-2 Inv-loop μ-loop
 same-length-2 c =

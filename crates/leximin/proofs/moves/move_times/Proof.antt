@@ -20,12 +20,12 @@ array-borrow-prefix-tree c = search needs
 slice-aggregate-move-by-tournament : tie.Need-slice-aggregate-move-by-tournament
 slice-aggregate-move-by-tournament c =
     let start = c .before .before .before .before .before in
-    sym (length-take-le _ _ (omega (arith, start .pre .statesFit)))
+    sym (length-take-le _ _ (omega (arith, start .pre .ready .problem .statesWithin)))
 
 move-by-tournament-requires : tie.Need-move-by-tournament-requires
 move-by-tournament-requires c κs =
     let start = c .before .before .before .before .before in
-    (start .pre, length-take-le _ _ (omega (arith, start .pre .statesFit)))
+    (start .pre, length-take-le _ _ (omega (arith, start .pre .ready .problem .statesWithin)))
 
 same-length : tie.Need-same-length
 same-length c = search needs

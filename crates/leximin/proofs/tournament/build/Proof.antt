@@ -11,7 +11,8 @@ use Rattle.leximin.proofs.tournament.build.Statement.{statement}
 use Rattle.leximin.proofs.tournament.build.Tie as tie
 
 abbrev Inv-loop : tie.InvT-loop
-Inv-loop up populations seats total house tree₀ k₀ tree k = (k < length populations) × Building (movesBefore up populations house seats) (length populations) k tree
+Inv-loop up populations seats total house tree₀ k₀ tree k =
+    (k < length populations) × Building (movesBefore up populations house seats) (length populations) k tree
 
 abbrev μ-loop : tie.MeasureT-loop
 μ-loop up populations seats total house tree₀ k₀ tree k = k
@@ -26,7 +27,7 @@ loop-holds : tie.Need-loop-holds Inv-loop μ-loop
 loop-holds c =
     let at-plant = c .before .before in
     let start = at-plant .before .before .before .before .before in
-    (omega (arith, start .pre .0 .workable .someState), building-none (at-plant .plant .ensures))
+    (omega (arith, start .pre .0 .seated .workable .someState), building-none (at-plant .plant .ensures))
 
 mul-better : tie.Need-mul-better Inv-loop μ-loop
 mul-better c = search needs
@@ -55,7 +56,7 @@ better-requires c κs =
     let at-loop = at-loop-test .before in
     let at-slice-known = at-loop .before .before .before .before .before in
     let start = at-slice-known .before .before .before in
-    (start .pre .0, let both = building-both (at-loop .loop .inv .1) (at-loop-test .loop-test .taken) (at-loop .loop .inv .0) in record { first = both .0; second = both .1 })
+    (start .pre .0, building-both (at-loop .loop .inv .1) (at-loop-test .loop-test .taken) (at-loop .loop .inv .0))
 
 mul-tree : tie.Need-mul-tree Inv-loop μ-loop
 mul-tree c = search needs
@@ -75,7 +76,8 @@ loop-again : tie.Need-loop-again Inv-loop μ-loop
 loop-again c =
     let at-loop-test = c .before .before .before in
     let at-loop = at-loop-test .before in
-    (omega (arith, at-loop .loop .inv .0), building-more (at-loop .loop .inv .1) (at-loop-test .loop-test .taken) (at-loop .loop .inv .0) (c .better .ensures))
+    let more = building-more (at-loop .loop .inv .1) (at-loop-test .loop-test .taken) (at-loop .loop .inv .0) (c .better .ensures) in
+    (omega (arith, at-loop .loop .inv .0), more)
 
 same-length : tie.Need-same-length Inv-loop μ-loop
 same-length c =

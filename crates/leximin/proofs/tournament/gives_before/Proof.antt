@@ -1,11 +1,10 @@
--- `leximin::tournament::gives_before` meets its contract: the tests that were made pick the case of the definition, and comparing the two last claims is the theory's test of them.
+-- `leximin::tournament::gives_before` meets its contract: the tests that were made pick the case of the definition; two states with a seat to spare are at or below their starts, so their last claims can be compared by quotients.
 -- Assumes nothing.
-use native.Mathlib.Omega.{arith}
 use mathlib.Core.Path.{_∙_}
 use borrow.Author.Tests.{lt-ltb, le-ltb}
 use Rattle.claims.specs.Order.{givesUpBefore}
-use Rattle.leximin.specs.Scan.{claims-compared}
-use Rattle.leximin.specs.Sizes.{counted, measured}
+use Rattle.claims.specs.SizeClaims.{sizeTest}
+use Rattle.leximin.specs.Quotients.{falling}
 use borrow.Author.Needs.{needs}
 use Rattle.leximin.proofs.tournament.gives_before.Statement.{statement}
 use Rattle.leximin.proofs.tournament.gives_before.Tie as tie
@@ -30,48 +29,41 @@ returns-2 : tie.Need-returns-2
 unfolding givesUpBefore
 returns-2 c = simp (lt-ltb _ _ (c .before .if1 .left), le-ltb _ _ (c .if2 .taken))
 
-mul-move-of : tie.Need-mul-move-of
-mul-move-of c = search needs
+mul-falls-before : tie.Need-mul-falls-before
+mul-falls-before c = search needs
 
-shared-slice-read-move-of : tie.Need-shared-slice-read-move-of
-shared-slice-read-move-of c = search needs
+shared-slice-read-falls-before : tie.Need-shared-slice-read-falls-before
+shared-slice-read-falls-before c = search needs
 
-sub-move-of : tie.Need-sub-move-of
-sub-move-of c = search needs
+sub-falls-before : tie.Need-sub-falls-before
+sub-falls-before c = search needs
 
-move-of-requires : tie.Need-move-of-requires
-move-of-requires c κs =
-    let at-if1 = c .before .before in
-    let start = at-if1 .before .before .before .before .before in
-    measured (counted (start .pre .0 .workable .counts) (start .args .i)) (omega (arith, at-if1 .if1 .left, start .pre .0 .workable .seatsFit (start .args .i)))
+mul-falls-before-2 : tie.Need-mul-falls-before-2
+mul-falls-before-2 c = search needs
 
-mul-move-of-2 : tie.Need-mul-move-of-2
-mul-move-of-2 c = search needs
+shared-slice-read-falls-before-2 : tie.Need-shared-slice-read-falls-before-2
+shared-slice-read-falls-before-2 c = search needs
 
-shared-slice-read-move-of-2 : tie.Need-shared-slice-read-move-of-2
-shared-slice-read-move-of-2 c = search needs
+sub-falls-before-2 : tie.Need-sub-falls-before-2
+sub-falls-before-2 c = search needs
 
-sub-move-of-2 : tie.Need-sub-move-of-2
-sub-move-of-2 c = search needs
-
-move-of-requires-2 : tie.Need-move-of-requires-2
-move-of-requires-2 c κs =
-    let at-if2 = c .before .before .before in
-    let at-shared-slice-known = at-if2 .before .before .before .before .before in
-    let start = at-shared-slice-known .before in
-    measured (counted (start .pre .0 .workable .counts) (start .args .j)) (omega (arith, at-if2 .if2 .left, start .pre .0 .workable .seatsFit (start .args .j)))
-
-move-less-requires : tie.Need-move-less-requires
-move-less-requires c κs = search needs
+falls-before-requires : tie.Need-falls-before-requires
+falls-before-requires c κs =
+    let at-if2 = c .before .before in
+    let at-if1 = at-if2 .before in
+    let start = at-if1 .before .before .before .before .before in (
+      falling (start .args .i) (start .pre .1 .0) (start .pre .0) (at-if1 .if1 .left),
+      falling (start .args .j) (start .pre .1 .1) (start .pre .0) (at-if2 .if2 .left),
+    )
 
 returns-3 : tie.Need-returns-3
-unfolding givesUpBefore
+unfolding givesUpBefore sizeTest
 returns-3 c =
-    let at-move-of = c .before .before .before in
-    let at-if2 = at-move-of .before .before in
+    let at-if2 = c .before .before .before in
     let at-if1 = at-if2 .before in
     let start = at-if1 .before .before .before .before .before in
-    simp (lt-ltb _ _ (at-if1 .if1 .left), lt-ltb _ _ (at-if2 .if2 .left), c .move-less .ensures ∙ claims-compared (start .pre .0 .workable .counts) (start .args .i) _ (start .args .j) _ (at-move-of .move-of .ensures) (c .before .move-of2 .ensures))
+    rw (← start .pre .0 .seated .workable .counts .sums)
+    (simp (lt-ltb _ _ (at-if1 .if1 .left), lt-ltb _ _ (at-if2 .if2 .left), c .falls-before .ensures))
 
 pub gives-before-spec : {M : Type 1} → statement M
 gives-before-spec =
@@ -83,13 +75,11 @@ gives-before-spec =
     shared-slice-read-b
     returns
     returns-2
-    mul-move-of
-    shared-slice-read-move-of
-    sub-move-of
-    move-of-requires
-    mul-move-of-2
-    shared-slice-read-move-of-2
-    sub-move-of-2
-    move-of-requires-2
-    move-less-requires
+    mul-falls-before
+    shared-slice-read-falls-before
+    sub-falls-before
+    mul-falls-before-2
+    shared-slice-read-falls-before-2
+    sub-falls-before-2
+    falls-before-requires
     returns-3)

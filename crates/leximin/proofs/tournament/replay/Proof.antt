@@ -11,7 +11,8 @@ use Rattle.leximin.proofs.tournament.replay.Statement.{statement}
 use Rattle.leximin.proofs.tournament.replay.Tie as tie
 
 abbrev Inv-loop : tie.InvT-loop
-Inv-loop up populations seats total house state tree₀ k₀ tree k = (k < length populations) × Replaying (movesBefore up populations house seats) (length populations) k tree
+Inv-loop up populations seats total house state tree₀ k₀ tree k =
+    (k < length populations) × Replaying (movesBefore up populations house seats) (length populations) k tree
 
 abbrev μ-loop : tie.MeasureT-loop
 μ-loop up populations seats total house state tree₀ k₀ tree k = k
@@ -48,7 +49,7 @@ better-requires c κs =
     let at-loop-test = c .before .before in
     let at-loop = at-loop-test .before in
     let start = at-loop .before .before .before .before in
-    (start .pre .0, let both = replaying-both (at-loop .loop .inv .1) (at-loop-test .loop-test .taken) (at-loop .loop .inv .0) in record { first = both .0; second = both .1 })
+    (start .pre .0, replaying-both (at-loop .loop .inv .1) (at-loop-test .loop-test .taken) (at-loop .loop .inv .0))
 
 mul-tree : tie.Need-mul-tree Inv-loop μ-loop
 mul-tree c = search needs
@@ -65,7 +66,8 @@ loop-again : tie.Need-loop-again Inv-loop μ-loop
 loop-again c =
     let at-loop-test = c .before .before .before in
     let at-loop = at-loop-test .before in
-    (omega (arith, at-loop .loop .inv .0), replaying-more (at-loop .loop .inv .1) (at-loop-test .loop-test .taken) (at-loop .loop .inv .0) (c .better .ensures))
+    let more = replaying-more (at-loop .loop .inv .1) (at-loop-test .loop-test .taken) (at-loop .loop .inv .0) (c .better .ensures) in
+    (omega (arith, at-loop .loop .inv .0), more)
 
 same-length : tie.Need-same-length Inv-loop μ-loop
 same-length c =
