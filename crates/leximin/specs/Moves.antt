@@ -90,6 +90,7 @@ module _ {ps : List ℕ} {P H : ℕ} (r : Ready ps P H) (k : ℕ) where
               least = placedTimes-standing n oneEach lt (size-order s) start k (s .someState) (start-standing s) .least;
             };
         sound = s;
+        few = r .problem .statesWithin;
         side = λ i inside. rw (← start-at ps H i inside) (placed-at-least lt n start (s .someState) (length-start ps H) k i);
       }
 
@@ -110,6 +111,7 @@ module _ {ps : List ℕ} {P H : ℕ} (r : Ready ps P H) (k : ℕ) where
                   (rw (sum-listOf-one n) room) .least;
             };
         sound = s;
+        few = r .problem .statesWithin;
         side = λ i inside. rw (← start-at ps H i inside) (withdrawn-at-most oneEach lt n start k i);
       }
 
@@ -148,28 +150,25 @@ module _ {up : Bool} {ps xs₀ xs t : List ℕ} {P H times done : ℕ}
   pub moving-sided : done ≤ times → Sided up ps xs P H
   moving-sided h = rw (so-far .seats) (moved-sided up m done h)
 
-  pub root-inside : getD t 1 0 < length ps
-  root-inside = winner-lt (so-far .winners) 1 (omega arith) (omega (arith, m .ready .problem .someState))
+  -- The state at the root makes the next move.
+  module _ {j : ℕ} (root : j ≡ getD t 1 0) where
+    pub root-inside : j < length ps
+    root-inside = rw root (winner-lt (so-far .winners) 1 (omega arith) (omega (arith, m .ready .problem .someState)))
 
-  pub root-has-seats : done ≤ times → getD t 1 0 < length xs
-  root-has-seats h = rw (moving-sided h .seated .workable .states) root-inside
+    pub root-has-seats : done ≤ times → j < length xs
+    root-has-seats h = rw (moving-sided h .seated .workable .states) root-inside
 
-  module _ {v : ℕ} (move : v ≡ movedBy up (getD xs (getD t 1 0) 0)) (left : done < times) where
-    -- The state at the root makes the move.
-    pub root-moved : set xs (getD t 1 0) v ≡ movedTimes up ps H xs₀ (done + 1)
-    root-moved =
-        let first = root-is-first (so-far .winners) (moves-pass up (moving-sided (omega arith))) (m .ready .problem .someState) in
-        rw (one-more-moved up ps H xs₀ done, ← so-far .seats, ← first) (rw move)
+    module _ {v : ℕ} (move : v ≡ movedBy up (getD xs j 0)) (left : done < times) where
+      pub root-moved : set xs j v ≡ movedTimes up ps H xs₀ (done + 1)
+      root-moved =
+          let first = root-is-first (so-far .winners) (moves-pass up (moving-sided (omega arith))) (m .ready .problem .someState) in
+          rw (one-more-moved up ps H xs₀ done, ← so-far .seats, ← first, ← root) (rw move)
 
-    pub next-sided : Sided up ps (set xs (getD t 1 0) v) P H
-    next-sided = rw root-moved (moved-sided up m (done + 1) (omega arith))
-
-    pub next-due : Moved up ps H (set xs (getD t 1 0) v) (getD t 1 0) t
-    next-due =
-        record {
-          inside = root-inside;
-          due = replaying-start (so-far .winners) (getD t 1 0) (moves-agree up ps H xs (getD t 1 0) v);
-        }
+      pub root-due : Sided up ps (set xs j v) P H × Moved up ps H (set xs j v) j t
+      root-due = (
+        rw root-moved (moved-sided up m (done + 1) (omega arith)),
+        record { inside = root-inside; due = replaying-start (so-far .winners) j (moves-agree up ps H xs j v) },
+      )
 
 -- ---- moves by a scan
 

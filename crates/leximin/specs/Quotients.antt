@@ -7,7 +7,7 @@ use Prim.Native.Nat.{ℕ, _+_, _*_, _-_, _<_, _≤_}
 use native.Mathlib.Nat.{le-refl, le-trans, mul-le-mul}
 use native.Mathlib.Omega.{arith}
 use lib.ListN.{length, getD}
-use Rattle.apportionment.specs.Limits.{houseLimit, sumLimit}
+use Rattle.apportionment.specs.Limits.{stateLimit, houseLimit, sumLimit}
 use Rattle.apportionment.specs.Lists.{sum}
 use Rattle.apportionment.specs.Leximin.{nearest}
 use Rattle.claims.specs.SizeClaims.{Sound, sizeBefore}
@@ -50,6 +50,7 @@ Side false start a = a ≤ start
 pub record Sided (up : Bool) (ps xs : List ℕ) (P H : ℕ) : Type 0 where
   pub seated : Seated ps xs P H
   pub sound : Sound ps H
+  pub few : length ps ≤ stateLimit
   pub side : (i : ℕ) → i < length ps → Side up (nearest (getD ps i 0) (sum ps) H) (getD xs i 0)
 
 module _ {ps xs : List ℕ} {P H : ℕ} (i : ℕ) (inside : i < length ps) where

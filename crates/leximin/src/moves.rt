@@ -3,6 +3,7 @@ use crate::scan::first_unmet;
 use crate::scan::last_met;
 use crate::tournament::build;
 use crate::tournament::replay;
+use crate::tournament::wide;
 ghost use mathlib.Core.Path.{_≡_};
 ghost use Prim.Native.Nat.{_*_, _<_, _≤_};
 ghost use lib.ListN.{length};
@@ -49,7 +50,7 @@ fn move_by_tournament(
     total: u64,
     house: u64,
     times: u64,
-    tree: &mut [usize],
+    tree: &mut [u16],
 )
     requires { ⌜ Movable up (now populations) (now seats) total house times × (length (now tree) ≡ 2 * length (now populations)) ⌝ }
     ensures { λ _. ⌜ now (seats .exit) ≡ movedTimes up (now (populations .entry)) house (now (seats .entry)) times ⌝ }
@@ -57,7 +58,7 @@ fn move_by_tournament(
     build(up, populations, &seats[..], total, house, &mut tree[..]);
     let mut done = 0;
     while done < times {
-        let state = tree[1];
+        let state = wide(tree[1]);
         seats[state] = moved_by(up, seats[state]);
         replay(
             up,
@@ -90,7 +91,7 @@ pub fn move_times(
     if times == 0 {
         return;
     }
-    let mut tree = [0usize; PLACES];
+    let mut tree = [0u16; PLACES];
     let places = 2 * populations.len();
     move_by_tournament(
         up,

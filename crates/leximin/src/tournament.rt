@@ -4,8 +4,9 @@ use crate::quotients::climbs_before;
 use crate::quotients::falls_before;
 ghost use mathlib.Core.Path.{_≡_};
 ghost use mathlib.Core.Bool.{true, false};
-ghost use Prim.Native.Nat.{_*_};
+ghost use Prim.Native.Nat.{_*_, _≤_};
 ghost use lib.ListN.{length};
+ghost use Rattle.apportionment.specs.Limits.{stateLimit};
 ghost use Rattle.claims.specs.Order.{wantsBefore, givesUpBefore};
 ghost use Rattle.claims.specs.SizeClaims.{sizeTest, oneEach};
 ghost use Rattle.claims.specs.TournamentReplay.{Planted};
@@ -76,6 +77,13 @@ fn moves_before(
     gives_before(populations, seats, total, house, i, j)
 }
 
+// A state as the tournament holds it, in two bytes, so that there is little to clear where few seats move.
+pub fn wide(state: u16) -> usize
+    ensures { λ r. ⌜ r ≡ state ⌝ }
+{
+    state as usize
+}
+
 // The one of two states that moves: the earlier one, unless the later one moves rather than it.
 fn better(
     up: bool,
@@ -83,45 +91,40 @@ fn better(
     seats: &[u64],
     total: u64,
     house: u64,
-    i: usize,
-    j: usize,
-) -> usize
+    i: u16,
+    j: u16,
+) -> u16
     requires { ⌜ Sided up (now populations) (now seats) total house × Pair (now populations) i j ⌝ }
     ensures { λ r. ⌜ r ≡ betterState up (now (populations .entry)) house (now (seats .entry)) i j ⌝ }
 {
+    let first = wide(i);
+    let second = wide(j);
     if i < j {
-        if moves_before(up, populations, seats, total, house, j, i) {
+        if moves_before(up, populations, seats, total, house, second, first) {
             return j;
         }
         return i;
     }
-    if moves_before(up, populations, seats, total, house, i, j) {
+    if moves_before(up, populations, seats, total, house, first, second) {
         return i;
     }
     j
 }
 
 // Puts every state at its leaf.
-fn plant(states: usize, tree: &mut [usize])
-    requires { ⌜ length (now tree) ≡ 2 * states ⌝ }
+fn plant(states: usize, tree: &mut [u16])
+    requires { ⌜ (length (now tree) ≡ 2 * states) × (states ≤ stateLimit) ⌝ }
     ensures { λ _. ⌜ Planted states states (now (tree .exit)) ⌝ }
 {
     let mut i = 0;
     while i < states {
-        tree[states + i] = i;
+        tree[states + i] = i as u16;
         i += 1;
     }
 }
 
 // Decides every inner place, from the last one to the root.
-pub fn build(
-    up: bool,
-    populations: &[u64],
-    seats: &[u64],
-    total: u64,
-    house: u64,
-    tree: &mut [usize],
-)
+pub fn build(up: bool, populations: &[u64], seats: &[u64], total: u64, house: u64, tree: &mut [u16])
     requires { ⌜ Sided up (now populations) (now seats) total house × (length (now tree) ≡ 2 * length (now populations)) ⌝ }
     ensures { λ _. ⌜ Champions up (now (populations .entry)) house (now (seats .entry)) (now (tree .exit)) ⌝ }
 {
@@ -149,7 +152,7 @@ pub fn replay(
     total: u64,
     house: u64,
     state: usize,
-    tree: &mut [usize],
+    tree: &mut [u16],
 )
     requires { ⌜ Sided up (now populations) (now seats) total house × Moved up (now populations) house (now seats) state (now tree) ⌝ }
     ensures { λ _. ⌜ Champions up (now (populations .entry)) house (now (seats .entry)) (now (tree .exit)) ⌝ }

@@ -1,12 +1,12 @@
 -- `leximin::moves::move_by_tournament` meets its contract: after `done` turns the seats are those after so many moves, and the tournament is right for them; so its root is the state that the theory moves.
 -- Assumes nothing.
 use borrow.Author.Needs.{needs}
-use mathlib.Core.Path.{_≡_, refl, sym, _∙_}
+use mathlib.Core.Path.{sym, _∙_}
 use Prim.Native.Nat.{_≤_, _-_}
 use native.Mathlib.Omega.{arith}
 use native.Mathlib.Nat.{le-antisymm}
 use Rattle.leximin.specs.Moves.{Moving, none-moved, movable-sided, moving-sided}
-use Rattle.leximin.specs.Moves.{root-inside, root-has-seats, root-moved, next-sided, next-due}
+use Rattle.leximin.specs.Moves.{root-inside, root-has-seats, root-moved, root-due}
 use Rattle.leximin.proofs.moves.move_by_tournament.Statement.{statement}
 use Rattle.leximin.proofs.moves.move_by_tournament.Tie as tie
 
@@ -25,59 +25,65 @@ build-requires c κs =
 loop-holds : tie.Need-loop-holds Inv-loop μ-loop
 loop-holds c = (search needs, record { seats = none-moved _ _ _ _; winners = c .before .before .build .ensures })
 
-slice-read-state : tie.Need-slice-read-state Inv-loop μ-loop
-slice-read-state c =
+slice-read-wide : tie.Need-slice-read-wide Inv-loop μ-loop
+slice-read-wide c =
     let at-loop = c .before .before in
     let at-build-arg = at-loop .before .before .before .before .before in
     let start = at-build-arg .before .before .before .before in
     omega (arith, at-loop .loop .inv .1 .winners .size, start .pre .0 .ready .problem .someState)
 
+wide-requires : tie.Need-wide-requires Inv-loop μ-loop
+wide-requires c κs = search needs
+
 mul-moved-by : tie.Need-mul-moved-by Inv-loop μ-loop
 mul-moved-by c =
-    let at-loop = c .before .before in
+    let at-loop = c .before .before .before in
     let at-build-arg = at-loop .before .before .before .before .before in
     let start = at-build-arg .before .before .before .before in
-    omega (arith, root-inside (start .pre .0) (at-loop .loop .inv .1), start .pre .0 .ready .problem .statesWithin)
+    omega (arith, root-inside (start .pre .0) (at-loop .loop .inv .1) (c .wide .ensures), start .pre .0 .ready .problem .statesWithin)
 
 slice-read-moved-by : tie.Need-slice-read-moved-by Inv-loop μ-loop
 slice-read-moved-by c =
-    let at-loop = c .before .before .before in
+    let at-loop = c .before .before .before .before in
     let at-build-arg = at-loop .before .before .before .before .before in
     let start = at-build-arg .before .before .before .before in
-    root-has-seats (start .pre .0) (at-loop .loop .inv .1) (at-loop .loop .inv .0)
+    root-has-seats (start .pre .0) (at-loop .loop .inv .1) (c .before .wide .ensures) (at-loop .loop .inv .0)
 
 moved-by-requires : tie.Need-moved-by-requires Inv-loop μ-loop
 moved-by-requires c κs =
-    let at-loop = c .before .before .before in
+    let at-loop = c .before .before .before .before in
     let at-build-arg = at-loop .before .before .before .before .before in
     let start = at-build-arg .before .before .before .before in
     let now = moving-sided (start .pre .0) (at-loop .loop .inv .1) (at-loop .loop .inv .0) in
-    (now .seated .least _ (root-inside (start .pre .0) (at-loop .loop .inv .1)), now .seated .workable .seatsFit _)
+    let inside = root-inside (start .pre .0) (at-loop .loop .inv .1) (c .before .wide .ensures) in
+    (now .seated .least _ inside, now .seated .workable .seatsFit _)
 
 mul-seats : tie.Need-mul-seats Inv-loop μ-loop
 mul-seats c =
-    let at-loop = c .before .before .before .before in
+    let at-wide = c .before .before in
+    let at-loop = at-wide .before .before .before in
     let at-build-arg = at-loop .before .before .before .before .before in
     let start = at-build-arg .before .before .before .before in
-    omega (arith, root-inside (start .pre .0) (at-loop .loop .inv .1), start .pre .0 .ready .problem .statesWithin)
+    omega (arith, root-inside (start .pre .0) (at-loop .loop .inv .1) (at-wide .wide .ensures), start .pre .0 .ready .problem .statesWithin)
 
 slice-write-seats : tie.Need-slice-write-seats Inv-loop μ-loop
 slice-write-seats c =
-    let at-loop = c .before .before .before .before in
+    let at-wide = c .before .before in
+    let at-loop = at-wide .before .before .before in
     let at-build-arg = at-loop .before .before .before .before .before in
     let start = at-build-arg .before .before .before .before in
-    root-has-seats (start .pre .0) (at-loop .loop .inv .1) (at-loop .loop .inv .0)
+    root-has-seats (start .pre .0) (at-loop .loop .inv .1) (at-wide .wide .ensures) (at-loop .loop .inv .0)
 
 replay-requires : tie.Need-replay-requires Inv-loop μ-loop
 replay-requires c κs =
     let at-moved-by = c .before .before in
-    let at-loop-test = at-moved-by .before .before .before in
+    let at-wide = at-moved-by .before .before in
+    let at-loop-test = at-wide .before .before in
     let at-loop = at-loop-test .before in
     let at-build-arg = at-loop .before .before .before .before .before in
-    let start = at-build-arg .before .before .before .before in (
-      next-sided (start .pre .0) (at-loop .loop .inv .1) (at-moved-by .moved-by .ensures) (at-loop-test .loop-test .taken),
-      next-due (start .pre .0) (at-loop .loop .inv .1) (at-moved-by .moved-by .ensures) (at-loop-test .loop-test .taken),
-    )
+    let start = at-build-arg .before .before .before .before in
+    root-due (start .pre .0) (at-loop .loop .inv .1) (at-wide .wide .ensures) (at-moved-by .moved-by .ensures)
+    (at-loop-test .loop-test .taken)
 
 add-done : tie.Need-add-done Inv-loop μ-loop
 add-done c = search needs
@@ -89,13 +95,16 @@ loop-again : tie.Need-loop-again Inv-loop μ-loop
 loop-again c =
     let at-replay = c .before .before in
     let at-moved-by = at-replay .before .before .before in
-    let at-loop-test = at-moved-by .before .before .before in
+    let at-wide = at-moved-by .before .before in
+    let at-loop-test = at-wide .before .before in
     let at-loop = at-loop-test .before in
     let at-build-arg = at-loop .before .before .before .before .before in
     let start = at-build-arg .before .before .before .before in (
       omega (arith, at-loop-test .loop-test .taken),
       record {
-        seats = root-moved (start .pre .0) (at-loop .loop .inv .1) (at-moved-by .moved-by .ensures) (at-loop-test .loop-test .taken);
+        seats =
+            root-moved (start .pre .0) (at-loop .loop .inv .1) (at-wide .wide .ensures) (at-moved-by .moved-by .ensures)
+            (at-loop-test .loop-test .taken);
         winners = at-replay .replay .ensures;
       },
     )
@@ -124,7 +133,8 @@ move-by-tournament-spec =
     μ-loop
     build-requires
     loop-holds
-    slice-read-state
+    slice-read-wide
+    wide-requires
     mul-moved-by
     slice-read-moved-by
     moved-by-requires

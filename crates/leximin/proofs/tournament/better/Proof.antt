@@ -7,29 +7,63 @@ use borrow.Author.Needs.{needs}
 use Rattle.leximin.proofs.tournament.better.Statement.{statement}
 use Rattle.leximin.proofs.tournament.better.Tie as tie
 
+wide-requires : tie.Need-wide-requires
+wide-requires c κs = search needs
+
+wide-requires-2 : tie.Need-wide-requires-2
+wide-requires-2 c κs = search needs
+
 moves-before-requires : tie.Need-moves-before-requires
 moves-before-requires c κs = search needs
 
 returns : tie.Need-returns
 unfolding better
-returns c = simp (lt-ltb _ _ (c .before .before .if1 .taken), sym (c .before .moves-before .ensures) ∙ c .if2 .taken)
+returns c =
+    let at-if1 = c .before .before in
+    let at-wide2 = at-if1 .before in
+    let at-wide = at-wide2 .before in
+    let tested = rw (at-wide2 .wide2 .ensures, at-wide .wide .ensures) at (c .before .moves-before .ensures) in
+    simp (lt-ltb _ _ (at-if1 .if1 .taken), sym tested ∙ c .if2 .taken)
 
 returns-2 : tie.Need-returns-2
 unfolding better
-returns-2 c = simp (lt-ltb _ _ (c .before .before .if1 .taken), sym (c .before .moves-before .ensures) ∙ c .if2 .left)
+returns-2 c =
+    let at-if1 = c .before .before in
+    let at-wide2 = at-if1 .before in
+    let at-wide = at-wide2 .before in
+    let tested = rw (at-wide2 .wide2 .ensures, at-wide .wide .ensures) at (c .before .moves-before .ensures) in
+    simp (lt-ltb _ _ (at-if1 .if1 .taken), sym tested ∙ c .if2 .left)
 
 moves-before-requires-2 : tie.Need-moves-before-requires-2
 moves-before-requires-2 c κs = search needs
 
 returns-3 : tie.Need-returns-3
 unfolding better
-returns-3 c = simp (le-ltb _ _ (c .before .before .if1 .left), sym (c .before .moves-before2 .ensures) ∙ c .if3 .taken)
+returns-3 c =
+    let at-if1 = c .before .before in
+    let at-wide2 = at-if1 .before in
+    let at-wide = at-wide2 .before in
+    let tested = rw (at-wide .wide .ensures, at-wide2 .wide2 .ensures) at (c .before .moves-before2 .ensures) in
+    simp (le-ltb _ _ (at-if1 .if1 .left), sym tested ∙ c .if3 .taken)
 
 returns-4 : tie.Need-returns-4
 unfolding better
-returns-4 c = simp (le-ltb _ _ (c .before .before .if1 .left), sym (c .before .moves-before2 .ensures) ∙ c .if3 .left)
+returns-4 c =
+    let at-if1 = c .before .before in
+    let at-wide2 = at-if1 .before in
+    let at-wide = at-wide2 .before in
+    let tested = rw (at-wide .wide .ensures, at-wide2 .wide2 .ensures) at (c .before .moves-before2 .ensures) in
+    simp (le-ltb _ _ (at-if1 .if1 .left), sym tested ∙ c .if3 .left)
 
 pub better-spec : {M : Type 1} → statement M
 better-spec =
     tie.close
-    (tie.spec moves-before-requires returns returns-2 moves-before-requires-2 returns-3 returns-4)
+    (tie.spec
+    wide-requires
+    wide-requires-2
+    moves-before-requires
+    returns
+    returns-2
+    moves-before-requires-2
+    returns-3
+    returns-4)

@@ -16,7 +16,10 @@ abbrev μ-loop : tie.MeasureT-loop
 μ-loop states tree₀ i₀ tree i = states - i
 
 loop-holds : tie.Need-loop-holds Inv-loop μ-loop
-loop-holds c = (search needs, planted-none (c .pre))
+loop-holds c = (search needs, planted-none (c .pre .0))
+
+cast-tree : tie.Need-cast-tree Inv-loop μ-loop
+cast-tree c = search needs
 
 add-tree : tie.Need-add-tree Inv-loop μ-loop
 add-tree c = search needs
@@ -37,7 +40,7 @@ loop-again : tie.Need-loop-again Inv-loop μ-loop
 loop-again c = (omega arith, planted-more (c .before .loop .inv .1) (c .loop-test .taken))
 
 same-length : tie.Need-same-length Inv-loop μ-loop
-same-length c = c .before .loop .inv .1 .size ∙ sym (c .before .before .pre)
+same-length c = c .before .loop .inv .1 .size ∙ sym (c .before .before .pre .0)
 
 returns : tie.Need-returns Inv-loop μ-loop
 returns c = rw (le-antisymm (c .before .loop .inv .0) (c .loop-test .left)) at (c .before .loop .inv .1)
@@ -49,6 +52,7 @@ plant-spec =
     Inv-loop
     μ-loop
     loop-holds
+    cast-tree
     add-tree
     mul-tree
     slice-write-tree
