@@ -18,6 +18,7 @@ pub mod SizeTests
 pub mod SizeShape
 pub mod SizeOrder
 pub mod StartNearest
+pub mod SizeQuotients
 pub mod StartSeats
 pub mod StartBounds
 pub mod Every

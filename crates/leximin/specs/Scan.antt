@@ -43,15 +43,21 @@ pub record CandidateIs (ps xs : List ℕ) (P H j : ℕ) (c : Candidate) : Type 0
   pub place : c .place ≡ j
   pub claim : MoveIs (getD ps j 0) (getD xs j 0) P H (c .claim)
 
+-- Comparing two claims as they are held is comparing them by the test of claims.
+pub claims-compared : {ps : List ℕ} {P H : ℕ} → Counts ps P H → (i a j b : ℕ) {m k : Move}
+    → MoveIs (getD ps i 0) a P H m → MoveIs (getD ps j 0) b P H k → lessMove m k ≡ sizeTest ps H i a j b
+unfolding sizeTest
+claims-compared {ps} {P} {H} counts i a j b mi kj =
+    rw (mi .is, kj .is, ← counts .sums) (move-order-kept (getD ps i 0) a (getD ps j 0) b P H (counts .peopled))
+
 module _ (ps xs : List ℕ) (P H : ℕ) (counts : Counts ps P H) where
   abbrev before : ℕ → ℕ → Bool
   before = wantsBefore (sizeTest ps H) xs
 
   pub claim-test : (i j : ℕ) {m k : Move} → MoveIs (getD ps i 0) (getD xs i 0) P H m → MoveIs (getD ps j 0) (getD xs j 0) P H k
       → lessMove m k ≡ wantsBefore (sizeTest ps H) xs i j
-  unfolding wantsBefore sizeTest
-  claim-test i j mi kj =
-      rw (mi .is, kj .is, ← counts .sums) (move-order-kept (getD ps i 0) (getD xs i 0) (getD ps j 0) (getD xs j 0) P H (counts .peopled))
+  unfolding wantsBefore
+  claim-test i j mi kj = claims-compared counts i (getD xs i 0) j (getD xs j 0) mi kj
 
   pub better-next : (i : ℕ) {best : Candidate} {m : Move} → 0 < i
       → CandidateIs ps xs P H (firstPlace (wantsBefore (sizeTest ps H) xs) (i - 1)) best
@@ -93,10 +99,7 @@ module _ (ps xs : List ℕ) (P H : ℕ) (counts : Counts ps P H) where
 
   given-test : (i j : ℕ) {g h : Giver} → GiverIs ps xs P H i g → GiverIs ps xs P H j h
       → lessMove (g .claim) (h .claim) ≡ sizeTest ps H i (getD xs i 0 - 1) j (getD xs j 0 - 1)
-  unfolding sizeTest
-  given-test i j gi hj =
-      rw (gi .claim .is, hj .claim .is, ← counts .sums)
-      (move-order-kept (getD ps i 0) (getD xs i 0 - 1) (getD ps j 0) (getD xs j 0 - 1) P H (counts .peopled))
+  given-test i j gi hj = claims-compared counts i (getD xs i 0 - 1) j (getD xs j 0 - 1) (gi .claim) (hj .claim)
 
   prefer-picks : (i j : ℕ) {best next : Giver} → GiverIs ps xs P H j best → GiverIs ps xs P H i next
       → (s t u : Bool) → next .spares ≡ s → best .spares ≡ t → lessMove (next .claim) (best .claim) ≡ u

@@ -1,6 +1,6 @@
 -- From the start to the house: the moves end at the leximin allotment of the house, and there are as many as the gap.
 -- Assumes nothing.
-use mathlib.Core.Path.{_≡_, sym, _∙_, ap}
+use mathlib.Core.Path.{_≡_, refl, sym, _∙_}
 use mathlib.Core.Bool.{true, false, cond}
 use mathlib.Core.List.{List}
 use Prim.Native.Nat.{ℕ, _+_, _-_, _<_, _≤_}
@@ -8,19 +8,16 @@ use native.Mathlib.Omega.{arith}
 use borrow.Author.Tests.{lt-ltb, le-ltb}
 use lib.Dec.{ltb}
 use lib.ListN.{length, getD}
-use Rattle.apportionment.specs.Limits.{houseLimit}
-use Rattle.apportionment.specs.Lists.{sum}
 use Rattle.apportionment.specs.Quantities.{distance}
 use Rattle.apportionment.specs.Leximin.{leximinFor, startSeats, startTotal, gap}
 use Rattle.claims.specs.Order.{placedTimes, withdrawnTimes, endsApart, comes, firstUnmet, lastMet}
 use Rattle.claims.specs.SizeClaims.{sizeTest, oneEach}
-use Rattle.claims.specs.StartSeats.{start-standing}
 use Rattle.claims.specs.LeximinSteps.{lexMoved, last-step-leximin}
 use Rattle.problem.specs.Total.{cappedTotal, total-is-sum}
-use Rattle.leximin.specs.Sizes.{MoveIs, lessMove, move-order-kept}
-use Rattle.leximin.specs.Scan.{Workable, Seated}
-use Rattle.leximin.specs.Start.{Ready, ready-sound, start-workable, start-total-fits}
-use Rattle.leximin.specs.Moves.{Withdrawable}
+use Rattle.leximin.specs.Sizes.{MoveIs, lessMove}
+use Rattle.leximin.specs.Scan.{Seated, claims-compared}
+use Rattle.leximin.specs.Start.{Ready, ready-sound, start-total-fits}
+use Rattle.leximin.specs.Moves.{movedTimes, Movable}
 use Rattle.leximin.specs.declared.sizes.Move.{Move}
 
 -- What filling hands back: the leximin allotment of the house, and the gap between the start and the house.
@@ -57,30 +54,25 @@ module _ {ps : List ℕ} {P H : ℕ} (r : Ready ps P H) where
     total : start ≡ startTotal ps H
     total = start-added begun added
 
-    pub can-place : start < H → Workable ps xs P H × (sum xs + (H - start) ≤ houseLimit)
+    pub can-place : start < H → Movable true ps xs P H (H - start)
     unfolding startTotal
-    can-place h = (rw begun (start-workable r), omega (arith, total, ap sum begun, r .problem .houseWithin))
+    can-place h = rw begun (record { ready = r; begun = refl; room = omega (arith, total, r .problem .houseWithin) })
 
-    pub can-withdraw : length ps ≤ H → H ≤ start → Withdrawable ps xs P H (start - H)
+    pub can-withdraw : length ps ≤ H → H ≤ start → Movable false ps xs P H (start - H)
     unfolding startTotal
-    can-withdraw fits h =
-        rw begun
-        (record {
-          workable = start-workable r;
-          sound = ready-sound r;
-          standing = start-standing (ready-sound r);
-          enough = omega (arith, total);
-        })
+    can-withdraw fits h = rw begun (record { ready = r; begun = refl; room = omega (arith, total) })
 
-    pub placed-settled : {ys : List ℕ} → length ps ≤ H → start < H → ys ≡ placedTimes (sizeTest ps H) (length ps) xs (H - start)
+    pub placed-settled : {ys : List ℕ} → length ps ≤ H → start < H → ys ≡ movedTimes true ps H xs (H - start)
         → Settled ps H ys (H - start)
+    unfolding movedTimes
     placed-settled fits h e =
         let below : startTotal ps H < H = rw total at h in
         let whole : H - start ≡ gap ps H = rw total (sym (gap-up below)) in
         record { seats = e ∙ rw (begun, whole) (moved-up fits below); steps = whole }
 
     pub withdrawn-settled : {ys : List ℕ} → length ps ≤ H → H ≤ start
-        → ys ≡ withdrawnTimes oneEach (sizeTest ps H) (length ps) xs (start - H) → Settled ps H ys (start - H)
+        → ys ≡ movedTimes false ps H xs (start - H) → Settled ps H ys (start - H)
+    unfolding movedTimes
     withdrawn-settled fits h e =
         let above : H ≤ startTotal ps H = rw total at h in
         let whole : start - H ≡ gap ps H = rw total (sym (gap-down above)) in
@@ -95,15 +87,11 @@ module _ {ps xs : List ℕ} {P H : ℕ} (w : Seated ps xs P H) {i j : ℕ} (last
   unfolding endsApart
   none-to-spare h = rw (← last, le-ltb _ _ h)
 
-  claim-order : (k a l b : ℕ) {m n : Move} → MoveIs (getD ps k 0) a P H m → MoveIs (getD ps l 0) b P H n → lessMove m n ≡ sizeTest ps H k a l b
-  unfolding sizeTest
-  claim-order k a l b mk nl =
-      rw (mk .is, nl .is, ← w .workable .counts .sums)
-      (move-order-kept (getD ps k 0) a (getD ps l 0) b P H (w .workable .counts .peopled))
-
   pub ends-compared : {met unmet : Move} → 1 < getD xs i 0 → MoveIs (getD ps i 0) (getD xs i 0 - 1) P H met
       → MoveIs (getD ps j 0) (getD xs j 0) P H unmet
       → cond (lessMove met unmet) true (cond (lessMove unmet met) false (ltb i j)) ≡ endsApart oneEach (sizeTest ps H) (length ps) xs
   unfolding endsApart comes
   ends-compared h m u =
-      rw (← last, ← first, lt-ltb _ _ h, claim-order i (getD xs i 0 - 1) j (getD xs j 0) m u, claim-order j (getD xs j 0) i (getD xs i 0 - 1) u m)
+      rw (← last, ← first, lt-ltb _ _ h)
+      (rw (claims-compared (w .workable .counts) i (getD xs i 0 - 1) j (getD xs j 0) m u)
+      (rw (claims-compared (w .workable .counts) j (getD xs j 0) i (getD xs i 0 - 1) u m)))

@@ -110,6 +110,10 @@ size-order-kept p a q b P H pos =
     rw (← mul-assoc (distance (p * H) (a * P)) b P, ← mul-assoc (distance (q * H) (b * P)) a P)
     (rw (scaled-test (distance (p * H) (a * P) * b) (distance (q * H) (b * P) * a) P pos))
 
+pub sizes-compared : {p a q b P H : ℕ} {s t : Size} → 0 < P → SizeIs p a P H s → SizeIs q b P H t
+    → lessSize s t ≡ less (sizeOf p a P H) (sizeOf q b P H)
+sizes-compared {p} {a} {q} {b} {P} {H} pos is it = rw (is .is, it .is) (size-order-kept p a q b P H pos)
+
 pub move-order-kept : (p a q b P H : ℕ) → 0 < P → lessMove (moveFor p a P H) (moveFor q b P H) ≡ sizeBefore P H p a q b
 unfolding lessMove moveFor firstThen sizeBefore moveBefore
 move-order-kept p a q b P H pos = simp (size-order-kept, add-one, pos)

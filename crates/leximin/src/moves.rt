@@ -1,15 +1,17 @@
-// One seat placed or withdrawn, and several in turn.
+// One seat placed or withdrawn, by a scan; and several in turn, by a tournament.
 use crate::scan::first_unmet;
 use crate::scan::last_met;
+use crate::tournament::build;
+use crate::tournament::replay;
+use crate::tournament::wide;
 ghost use mathlib.Core.Path.{_≡_};
-ghost use Prim.Native.Nat.{_+_, _<_, _≤_};
+ghost use Prim.Native.Nat.{_*_, _<_, _≤_};
 ghost use lib.ListN.{length};
-ghost use Rattle.apportionment.specs.Lists.{sum};
 ghost use Rattle.apportionment.specs.Limits.{houseLimit};
-ghost use Rattle.claims.specs.Order.{placed, placedTimes, withdrawn, withdrawnTimes};
+ghost use Rattle.claims.specs.Order.{placed, withdrawn};
 ghost use Rattle.claims.specs.SizeClaims.{sizeTest, oneEach};
 ghost use Rattle.leximin.specs.Scan.{Workable, Seated};
-ghost use Rattle.leximin.specs.Moves.{Withdrawable};
+ghost use Rattle.leximin.specs.Moves.{movedBy, movedTimes, Movable};
 
 // The first claim not met is met.
 pub fn place(populations: &[u64], seats: &mut [u64], total: u64, house: u64)
@@ -29,26 +31,75 @@ pub fn withdraw(populations: &[u64], seats: &mut [u64], total: u64, house: u64)
     seats[at] = seats[at] - 1;
 }
 
-// Places so many seats, one after the other.
-pub fn place_times(populations: &[u64], seats: &mut [u64], total: u64, house: u64, times: u64)
-    requires { ⌜ Workable (now populations) (now seats) total house × (sum (now seats) + times ≤ houseLimit) ⌝ }
-    ensures { λ _. ⌜ now (seats .exit) ≡ placedTimes (sizeTest (now (populations .entry)) house) (length (now (populations .entry))) (now (seats .entry)) times ⌝ }
+// A state's seats after its move.
+fn moved_by(up: bool, seats: u64) -> u64
+    requires { ⌜ (0 < seats) × (seats ≤ houseLimit) ⌝ }
+    ensures { λ r. ⌜ r ≡ movedBy up seats ⌝ }
 {
+    if up {
+        return seats + 1;
+    }
+    seats - 1
+}
+
+// Moves so many seats, one after the other: each time the state at the root of a tournament, which is then replayed.
+fn move_by_tournament(
+    up: bool,
+    populations: &[u64],
+    seats: &mut [u64],
+    total: u64,
+    house: u64,
+    times: u64,
+    tree: &mut [u16],
+)
+    requires { ⌜ Movable up (now populations) (now seats) total house times × (length (now tree) ≡ 2 * length (now populations)) ⌝ }
+    ensures { λ _. ⌜ now (seats .exit) ≡ movedTimes up (now (populations .entry)) house (now (seats .entry)) times ⌝ }
+{
+    build(up, populations, &seats[..], total, house, &mut tree[..]);
     let mut done = 0;
     while done < times {
-        place(populations, &mut seats[..], total, house);
+        let state = wide(tree[1]);
+        seats[state] = moved_by(up, seats[state]);
+        replay(
+            up,
+            populations,
+            &seats[..],
+            total,
+            house,
+            state,
+            &mut tree[..],
+        );
         done += 1;
     }
 }
 
-// Withdraws so many seats, one after the other.
-pub fn withdraw_times(populations: &[u64], seats: &mut [u64], total: u64, house: u64, times: u64)
-    requires { ⌜ Withdrawable (now populations) (now seats) total house times ⌝ }
-    ensures { λ _. ⌜ now (seats .exit) ≡ withdrawnTimes oneEach (sizeTest (now (populations .entry)) house) (length (now (populations .entry))) (now (seats .entry)) times ⌝ }
+// The places of a tournament among as many states as a register may have.
+const PLACES: usize = 500;
+
+// Places so many seats where `up` is true, and withdraws so many otherwise.
+pub fn move_times(
+    up: bool,
+    populations: &[u64],
+    seats: &mut [u64],
+    total: u64,
+    house: u64,
+    times: u64,
+)
+    requires { ⌜ Movable up (now populations) (now seats) total house times ⌝ }
+    ensures { λ _. ⌜ now (seats .exit) ≡ movedTimes up (now (populations .entry)) house (now (seats .entry)) times ⌝ }
 {
-    let mut done = 0;
-    while done < times {
-        withdraw(populations, &mut seats[..], total, house);
-        done += 1;
+    if times == 0 {
+        return;
     }
+    let mut tree = [0u16; PLACES];
+    let places = 2 * populations.len();
+    move_by_tournament(
+        up,
+        populations,
+        &mut seats[..],
+        total,
+        house,
+        times,
+        &mut tree[..places],
+    );
 }

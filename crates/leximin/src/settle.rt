@@ -1,6 +1,5 @@
 // The whole leximin allotment of a house, and the test that seats are leximin for their total.
-use crate::moves::place_times;
-use crate::moves::withdraw_times;
+use crate::moves::move_times;
 use crate::scan::first_unmet;
 use crate::scan::last_met;
 use crate::sizes::Move;
@@ -28,10 +27,24 @@ pub fn fill_leximin(populations: &[u64], total: u64, house: u64, seats: &mut [u6
     fill_start(populations, total, house, &mut seats[..]);
     let start = problem::total_of(&seats[..]);
     if start < house {
-        place_times(populations, &mut seats[..], total, house, house - start);
+        move_times(
+            true,
+            populations,
+            &mut seats[..],
+            total,
+            house,
+            house - start,
+        );
         return house - start;
     }
-    withdraw_times(populations, &mut seats[..], total, house, start - house);
+    move_times(
+        false,
+        populations,
+        &mut seats[..],
+        total,
+        house,
+        start - house,
+    );
     start - house
 }
 

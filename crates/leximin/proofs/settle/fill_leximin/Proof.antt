@@ -11,11 +11,11 @@ fill-start-requires c κs = search needs
 total-of-requires : tie.Need-total-of-requires
 total-of-requires c κs = search needs
 
-sub-place-times : tie.Need-sub-place-times
-sub-place-times c = search needs
+sub-move-times : tie.Need-sub-move-times
+sub-move-times c = search needs
 
-place-times-requires : tie.Need-place-times-requires
-place-times-requires c κs =
+move-times-requires : tie.Need-move-times-requires
+move-times-requires c κs =
     let at-total-of = c .before .before in
     let at-fill-start = at-total-of .before .before .before .before in
     let start = at-fill-start .before .before .before .before in
@@ -29,16 +29,16 @@ same-length c = search needs
 
 returns : tie.Need-returns
 returns c =
-    let at-place-times = c .before .before in
-    let at-if1 = at-place-times .before .before in
+    let at-move-times = c .before .before in
+    let at-if1 = at-move-times .before .before in
     let at-total-of = at-if1 .before in
     let at-fill-start = at-total-of .before .before .before .before in
     let start = at-fill-start .before .before .before .before in
     placed-settled (start .pre .0) (at-fill-start .fill-start .ensures) (at-total-of .total-of .ensures) (start .pre .1)
-    (at-if1 .if1 .taken) (at-place-times .place-times .ensures)
+    (at-if1 .if1 .taken) (at-move-times .move-times .ensures)
 
-withdraw-times-requires : tie.Need-withdraw-times-requires
-withdraw-times-requires c κs =
+move-times-requires-2 : tie.Need-move-times-requires-2
+move-times-requires-2 c κs =
     let at-total-of = c .before .before in
     let at-fill-start = at-total-of .before .before .before .before in
     let start = at-fill-start .before .before .before .before in
@@ -50,14 +50,13 @@ same-length-2 c = search needs
 
 returns-2 : tie.Need-returns-2
 returns-2 c =
-    let at-withdraw-times = c .before .before in
-    let at-if1 = at-withdraw-times .before .before in
+    let at-move-times2 = c .before .before in
+    let at-if1 = at-move-times2 .before .before in
     let at-total-of = at-if1 .before in
     let at-fill-start = at-total-of .before .before .before .before in
     let start = at-fill-start .before .before .before .before in
     withdrawn-settled (start .pre .0) (at-fill-start .fill-start .ensures) (at-total-of .total-of .ensures) (start .pre .1)
-    (at-if1 .if1 .left)
-    (at-withdraw-times .withdraw-times .ensures)
+    (at-if1 .if1 .left) (at-move-times2 .move-times2 .ensures)
 
 pub fill-leximin-spec : {M : Type 1} → statement M
 fill-leximin-spec =
@@ -65,11 +64,11 @@ fill-leximin-spec =
     (tie.spec
     fill-start-requires
     total-of-requires
-    sub-place-times
-    place-times-requires
+    sub-move-times
+    move-times-requires
     sub-result
     same-length
     returns
-    withdraw-times-requires
+    move-times-requires-2
     same-length-2
     returns-2)

@@ -1,0 +1,149 @@
+-- `leximin::moves::move_by_tournament` meets its contract: after `done` turns the seats are those after so many moves, and the tournament is right for them; so its root is the state that the theory moves.
+-- Assumes nothing.
+use borrow.Author.Needs.{needs}
+use mathlib.Core.Path.{sym, _∙_}
+use Prim.Native.Nat.{_≤_, _-_}
+use native.Mathlib.Omega.{arith}
+use native.Mathlib.Nat.{le-antisymm}
+use Rattle.leximin.specs.Moves.{Moving, none-moved, movable-sided, moving-sided}
+use Rattle.leximin.specs.Moves.{root-inside, root-has-seats, root-moved, root-due}
+use Rattle.leximin.proofs.moves.move_by_tournament.Statement.{statement}
+use Rattle.leximin.proofs.moves.move_by_tournament.Tie as tie
+
+abbrev Inv-loop : tie.InvT-loop
+Inv-loop up populations seats₀ total house times tree₀ done₀ seats tree done =
+    (done ≤ times) × Moving up populations seats₀ house done seats tree
+
+abbrev μ-loop : tie.MeasureT-loop
+μ-loop up populations seats₀ total house times tree₀ done₀ seats tree done = times - done
+
+build-requires : tie.Need-build-requires Inv-loop μ-loop
+build-requires c κs =
+    let start = c .before .before .before .before .before in
+    (movable-sided (start .pre .0), start .pre .1)
+
+loop-holds : tie.Need-loop-holds Inv-loop μ-loop
+loop-holds c = (search needs, record { seats = none-moved _ _ _ _; winners = c .before .before .build .ensures })
+
+slice-read-wide : tie.Need-slice-read-wide Inv-loop μ-loop
+slice-read-wide c =
+    let at-loop = c .before .before in
+    let at-build-arg = at-loop .before .before .before .before .before in
+    let start = at-build-arg .before .before .before .before in
+    omega (arith, at-loop .loop .inv .1 .winners .size, start .pre .0 .ready .problem .someState)
+
+wide-requires : tie.Need-wide-requires Inv-loop μ-loop
+wide-requires c κs = search needs
+
+mul-moved-by : tie.Need-mul-moved-by Inv-loop μ-loop
+mul-moved-by c =
+    let at-loop = c .before .before .before in
+    let at-build-arg = at-loop .before .before .before .before .before in
+    let start = at-build-arg .before .before .before .before in
+    omega (arith, root-inside (start .pre .0) (at-loop .loop .inv .1) (c .wide .ensures), start .pre .0 .ready .problem .statesWithin)
+
+slice-read-moved-by : tie.Need-slice-read-moved-by Inv-loop μ-loop
+slice-read-moved-by c =
+    let at-loop = c .before .before .before .before in
+    let at-build-arg = at-loop .before .before .before .before .before in
+    let start = at-build-arg .before .before .before .before in
+    root-has-seats (start .pre .0) (at-loop .loop .inv .1) (c .before .wide .ensures) (at-loop .loop .inv .0)
+
+moved-by-requires : tie.Need-moved-by-requires Inv-loop μ-loop
+moved-by-requires c κs =
+    let at-loop = c .before .before .before .before in
+    let at-build-arg = at-loop .before .before .before .before .before in
+    let start = at-build-arg .before .before .before .before in
+    let now = moving-sided (start .pre .0) (at-loop .loop .inv .1) (at-loop .loop .inv .0) in
+    let inside = root-inside (start .pre .0) (at-loop .loop .inv .1) (c .before .wide .ensures) in
+    (now .seated .least _ inside, now .seated .workable .seatsFit _)
+
+mul-seats : tie.Need-mul-seats Inv-loop μ-loop
+mul-seats c =
+    let at-wide = c .before .before in
+    let at-loop = at-wide .before .before .before in
+    let at-build-arg = at-loop .before .before .before .before .before in
+    let start = at-build-arg .before .before .before .before in
+    omega (arith, root-inside (start .pre .0) (at-loop .loop .inv .1) (at-wide .wide .ensures), start .pre .0 .ready .problem .statesWithin)
+
+slice-write-seats : tie.Need-slice-write-seats Inv-loop μ-loop
+slice-write-seats c =
+    let at-wide = c .before .before in
+    let at-loop = at-wide .before .before .before in
+    let at-build-arg = at-loop .before .before .before .before .before in
+    let start = at-build-arg .before .before .before .before in
+    root-has-seats (start .pre .0) (at-loop .loop .inv .1) (at-wide .wide .ensures) (at-loop .loop .inv .0)
+
+replay-requires : tie.Need-replay-requires Inv-loop μ-loop
+replay-requires c κs =
+    let at-moved-by = c .before .before in
+    let at-wide = at-moved-by .before .before in
+    let at-loop-test = at-wide .before .before in
+    let at-loop = at-loop-test .before in
+    let at-build-arg = at-loop .before .before .before .before .before in
+    let start = at-build-arg .before .before .before .before in
+    root-due (start .pre .0) (at-loop .loop .inv .1) (at-wide .wide .ensures) (at-moved-by .moved-by .ensures)
+    (at-loop-test .loop-test .taken)
+
+add-done : tie.Need-add-done Inv-loop μ-loop
+add-done c = search needs
+
+loop-less : tie.Need-loop-less Inv-loop μ-loop
+loop-less c = search needs
+
+loop-again : tie.Need-loop-again Inv-loop μ-loop
+loop-again c =
+    let at-replay = c .before .before in
+    let at-moved-by = at-replay .before .before .before in
+    let at-wide = at-moved-by .before .before in
+    let at-loop-test = at-wide .before .before in
+    let at-loop = at-loop-test .before in
+    let at-build-arg = at-loop .before .before .before .before .before in
+    let start = at-build-arg .before .before .before .before in (
+      omega (arith, at-loop-test .loop-test .taken),
+      record {
+        seats =
+            root-moved (start .pre .0) (at-loop .loop .inv .1) (at-wide .wide .ensures) (at-moved-by .moved-by .ensures)
+            (at-loop-test .loop-test .taken);
+        winners = at-replay .replay .ensures;
+      },
+    )
+
+same-length : tie.Need-same-length Inv-loop μ-loop
+same-length c =
+    let at-build-arg2 = c .before .before .before .before .before in
+    let start = at-build-arg2 .before .before .before .before .before in
+    moving-sided (start .pre .0) (c .before .loop .inv .1) (c .before .loop .inv .0) .seated .workable .states
+    ∙ sym (movable-sided (start .pre .0) .seated .workable .states)
+
+same-length-2 : tie.Need-same-length-2 Inv-loop μ-loop
+same-length-2 c =
+    let at-build-arg2 = c .before .before .before .before .before in
+    let start = at-build-arg2 .before .before .before .before .before in
+    c .before .loop .inv .1 .winners .size ∙ sym (start .pre .1)
+
+returns : tie.Need-returns Inv-loop μ-loop
+returns c = rw (le-antisymm (c .loop-test .left) (c .before .loop .inv .0)) (c .before .loop .inv .1 .seats)
+
+pub move-by-tournament-spec : {M : Type 1} → statement M
+move-by-tournament-spec =
+    tie.close
+    (tie.spec
+    Inv-loop
+    μ-loop
+    build-requires
+    loop-holds
+    slice-read-wide
+    wide-requires
+    mul-moved-by
+    slice-read-moved-by
+    moved-by-requires
+    mul-seats
+    slice-write-seats
+    replay-requires
+    add-done
+    loop-less
+    loop-again
+    same-length
+    same-length-2
+    returns)

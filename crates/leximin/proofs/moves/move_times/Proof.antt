@@ -1,0 +1,46 @@
+-- `leximin::moves::move_times` meets its contract: with no seat to move nothing is done; otherwise the tournament has two places for each state, which the array has room for.
+-- Assumes nothing.
+use mathlib.Core.Path.{sym}
+use native.Mathlib.Omega.{arith}
+use lib.Seq.{length-take-le}
+use Rattle.leximin.specs.Moves.{none-moved}
+use borrow.Author.Needs.{needs}
+use Rattle.leximin.proofs.moves.move_times.Statement.{statement}
+use Rattle.leximin.proofs.moves.move_times.Tie as tie
+
+returns : tie.Need-returns
+returns c = rw (c .if1 .taken) (none-moved _ _ _ _)
+
+mul-places : tie.Need-mul-places
+mul-places c = search needs
+
+array-borrow-prefix-tree : tie.Need-array-borrow-prefix-tree
+array-borrow-prefix-tree c = search needs
+
+slice-aggregate-move-by-tournament : tie.Need-slice-aggregate-move-by-tournament
+slice-aggregate-move-by-tournament c =
+    let start = c .before .before .before .before .before in
+    sym (length-take-le _ _ (omega (arith, start .pre .ready .problem .statesWithin)))
+
+move-by-tournament-requires : tie.Need-move-by-tournament-requires
+move-by-tournament-requires c κs =
+    let start = c .before .before .before .before .before in
+    (start .pre, length-take-le _ _ (omega (arith, start .pre .ready .problem .statesWithin)))
+
+same-length : tie.Need-same-length
+same-length c = search needs
+
+returns-2 : tie.Need-returns-2
+returns-2 c = search needs
+
+pub move-times-spec : {M : Type 1} → statement M
+move-times-spec =
+    tie.close
+    (tie.spec
+    returns
+    mul-places
+    array-borrow-prefix-tree
+    slice-aggregate-move-by-tournament
+    move-by-tournament-requires
+    same-length
+    returns-2)

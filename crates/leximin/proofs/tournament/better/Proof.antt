@@ -1,0 +1,69 @@
+-- `leximin::tournament::better` meets its contract: the tests that were made pick the case of the definition.
+-- Assumes nothing.
+use mathlib.Core.Path.{sym, _∙_}
+use borrow.Author.Tests.{lt-ltb, le-ltb}
+use Rattle.claims.specs.Tournament.{better}
+use borrow.Author.Needs.{needs}
+use Rattle.leximin.proofs.tournament.better.Statement.{statement}
+use Rattle.leximin.proofs.tournament.better.Tie as tie
+
+wide-requires : tie.Need-wide-requires
+wide-requires c κs = search needs
+
+wide-requires-2 : tie.Need-wide-requires-2
+wide-requires-2 c κs = search needs
+
+moves-before-requires : tie.Need-moves-before-requires
+moves-before-requires c κs = search needs
+
+returns : tie.Need-returns
+unfolding better
+returns c =
+    let at-if1 = c .before .before in
+    let at-wide2 = at-if1 .before in
+    let at-wide = at-wide2 .before in
+    let tested = rw (at-wide2 .wide2 .ensures, at-wide .wide .ensures) at (c .before .moves-before .ensures) in
+    simp (lt-ltb _ _ (at-if1 .if1 .taken), sym tested ∙ c .if2 .taken)
+
+returns-2 : tie.Need-returns-2
+unfolding better
+returns-2 c =
+    let at-if1 = c .before .before in
+    let at-wide2 = at-if1 .before in
+    let at-wide = at-wide2 .before in
+    let tested = rw (at-wide2 .wide2 .ensures, at-wide .wide .ensures) at (c .before .moves-before .ensures) in
+    simp (lt-ltb _ _ (at-if1 .if1 .taken), sym tested ∙ c .if2 .left)
+
+moves-before-requires-2 : tie.Need-moves-before-requires-2
+moves-before-requires-2 c κs = search needs
+
+returns-3 : tie.Need-returns-3
+unfolding better
+returns-3 c =
+    let at-if1 = c .before .before in
+    let at-wide2 = at-if1 .before in
+    let at-wide = at-wide2 .before in
+    let tested = rw (at-wide .wide .ensures, at-wide2 .wide2 .ensures) at (c .before .moves-before2 .ensures) in
+    simp (le-ltb _ _ (at-if1 .if1 .left), sym tested ∙ c .if3 .taken)
+
+returns-4 : tie.Need-returns-4
+unfolding better
+returns-4 c =
+    let at-if1 = c .before .before in
+    let at-wide2 = at-if1 .before in
+    let at-wide = at-wide2 .before in
+    let tested = rw (at-wide .wide .ensures, at-wide2 .wide2 .ensures) at (c .before .moves-before2 .ensures) in
+    simp (le-ltb _ _ (at-if1 .if1 .left), sym tested ∙ c .if3 .left)
+
+pub better-spec : {M : Type 1} → statement M
+better-spec =
+    tie.close
+    (tie.spec
+    wide-requires
+    wide-requires-2
+    moves-before-requires
+    returns
+    returns-2
+    moves-before-requires-2
+    returns-3
+    returns-4)

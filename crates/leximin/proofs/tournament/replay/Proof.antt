@@ -1,0 +1,101 @@
+-- `leximin::tournament::replay` meets its contract: every place off the way up from `k` is right, and deciding `k` leaves the way up from its half.
+-- Assumes nothing.
+use borrow.Author.Needs.{needs}
+use mathlib.Core.Path.{_≡_, sym, _∙_}
+use Prim.Native.Nat.{_<_}
+use lib.ListN.{length}
+use native.Mathlib.Omega.{arith}
+use Rattle.claims.specs.TournamentReplay.{Replaying, replaying-both, replaying-more, replayed}
+use Rattle.leximin.specs.Tournament.{movesBefore}
+use Rattle.leximin.proofs.tournament.replay.Statement.{statement}
+use Rattle.leximin.proofs.tournament.replay.Tie as tie
+
+abbrev Inv-loop : tie.InvT-loop
+Inv-loop up populations seats total house state tree₀ k₀ tree k =
+    (k < length populations) × Replaying (movesBefore up populations house seats) (length populations) k tree
+
+abbrev μ-loop : tie.MeasureT-loop
+μ-loop up populations seats total house state tree₀ k₀ tree k = k
+
+add-k : tie.Need-add-k Inv-loop μ-loop
+add-k c = search needs
+
+loop-holds : tie.Need-loop-holds Inv-loop μ-loop
+loop-holds c = (omega (arith, c .before .before .before .pre .1 .inside), c .before .before .before .pre .1 .due)
+
+mul-better : tie.Need-mul-better Inv-loop μ-loop
+mul-better c = search needs
+
+mul-better-2 : tie.Need-mul-better-2 Inv-loop μ-loop
+mul-better-2 c = search needs
+
+slice-read-better : tie.Need-slice-read-better Inv-loop μ-loop
+slice-read-better c = omega (arith, c .before .before .loop .inv .1 .size, c .before .before .loop .inv .0)
+
+mul-better-3 : tie.Need-mul-better-3 Inv-loop μ-loop
+mul-better-3 c = search needs
+
+add-better : tie.Need-add-better Inv-loop μ-loop
+add-better c = search needs
+
+mul-better-4 : tie.Need-mul-better-4 Inv-loop μ-loop
+mul-better-4 c = search needs
+
+slice-read-better-2 : tie.Need-slice-read-better-2 Inv-loop μ-loop
+slice-read-better-2 c = omega (arith, c .before .before .before .loop .inv .1 .size, c .before .before .before .loop .inv .0)
+
+better-requires : tie.Need-better-requires Inv-loop μ-loop
+better-requires c κs =
+    let at-loop-test = c .before .before in
+    let at-loop = at-loop-test .before in
+    let start = at-loop .before .before .before .before in
+    (start .pre .0, replaying-both (at-loop .loop .inv .1) (at-loop-test .loop-test .taken) (at-loop .loop .inv .0))
+
+mul-tree : tie.Need-mul-tree Inv-loop μ-loop
+mul-tree c = search needs
+
+slice-write-tree : tie.Need-slice-write-tree Inv-loop μ-loop
+slice-write-tree c =
+    let at-loop = c .before .before .before .before in
+    omega (arith, at-loop .loop .inv .1 .size, at-loop .loop .inv .0)
+
+loop-less : tie.Need-loop-less Inv-loop μ-loop
+loop-less c = search needs
+
+loop-again : tie.Need-loop-again Inv-loop μ-loop
+loop-again c =
+    let at-loop-test = c .before .before .before in
+    let at-loop = at-loop-test .before in
+    let more = replaying-more (at-loop .loop .inv .1) (at-loop-test .loop-test .taken) (at-loop .loop .inv .0) (c .better .ensures) in
+    (omega (arith, at-loop .loop .inv .0), more)
+
+same-length : tie.Need-same-length Inv-loop μ-loop
+same-length c =
+    let start = c .before .before .before .before .before in
+    c .before .loop .inv .1 .size ∙ sym (start .pre .1 .due .size)
+
+returns : tie.Need-returns Inv-loop μ-loop
+returns c = let e : c .before .loop .k ≡ 0 = omega (arith, c .loop-test .left) in replayed (rw e at (c .before .loop .inv .1))
+
+pub replay-spec : {M : Type 1} → statement M
+replay-spec =
+    tie.close
+    (tie.spec
+    Inv-loop
+    μ-loop
+    add-k
+    loop-holds
+    mul-better
+    mul-better-2
+    slice-read-better
+    mul-better-3
+    add-better
+    mul-better-4
+    slice-read-better-2
+    better-requires
+    mul-tree
+    slice-write-tree
+    loop-less
+    loop-again
+    same-length
+    returns)
