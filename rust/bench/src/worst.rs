@@ -1,0 +1,187 @@
+//! The worst that is known: inputs full of ties at 250 states, on which the library is timed
+//! beside the fastest exact plain program. Prints Markdown for docs/BENCHMARKS.md.
+
+use crate::families::{FAMILIES, HOUSES, STATES};
+use crate::plain::{commas, micros, programs, Times};
+use crate::{growth, sweep};
+use reference::Method;
+
+/// Repeats of each input, the best of which counts.
+const REPEATS: u32 = 20;
+/// So many inputs of each method, those with the largest ratios, are timed again with more
+/// repeats, so that an interruption does not make the worst one.
+const AGAIN: usize = 6;
+const REPEATS_AGAIN: u32 = 60;
+
+/// One input and the times on it.
+pub struct Timed {
+    pub family: usize,
+    pub house: u64,
+    pub times: Times,
+}
+
+/// A method's inputs.
+pub struct Results {
+    pub method: Method,
+    /// The largest ratio to the fastest plain program first.
+    pub timed: Vec<Timed>,
+}
+
+/// Times everything and prints the tables; the populations are ordinary ones, for the lines that
+/// say how fast the machine is.
+pub fn time_it(ordinary: &[u64]) {
+    let results = Method::ALL.map(time_method);
+    print_machine(ordinary);
+    print_worst(&results);
+    print_programs(&results);
+    print_longest(&results);
+    print_families(&results);
+    growth::print_it(&results);
+    sweep::print_it(&FAMILIES[results[0].timed[0].family]);
+}
+
+fn time_method(method: Method) -> Results {
+    let times = |family: usize, house: u64, repeats: u32| {
+        Times::of(
+            method,
+            house,
+            &FAMILIES[family].populations(STATES),
+            repeats,
+        )
+    };
+    let mut timed = Vec::new();
+    for family in 0..FAMILIES.len() {
+        for house in HOUSES {
+            if !method.seats_every_state() || house >= STATES as u64 {
+                timed.push(Timed {
+                    family,
+                    house,
+                    times: times(family, house, REPEATS),
+                });
+            }
+        }
+    }
+    let sort = |timed: &mut Vec<Timed>| {
+        timed.sort_by(|a, b| b.times.ratio().total_cmp(&a.times.ratio()));
+    };
+    sort(&mut timed);
+    for timed in &mut timed[..AGAIN] {
+        let again = times(timed.family, timed.house, REPEATS_AGAIN);
+        timed.times.improve(&again);
+    }
+    sort(&mut timed);
+    Results { method, timed }
+}
+
+fn print_machine(ordinary: &[u64]) {
+    let times = Times::of(Method::Hill, 9_999, ordinary, REPEATS);
+    println!("For comparing machines: Hill on 250 ordinary populations and a house of 9,999, µs:");
+    let shown: Vec<String> = programs(Method::Hill)
+        .iter()
+        .enumerate()
+        .map(|(place, (name, _))| format!("{name} {}", micros(times.of_program(place))))
+        .collect();
+    println!("{}.", shown.join(", "));
+}
+
+fn print_worst(results: &[Results]) {
+    println!("\nLibrary's time over that of the fastest exact plain program at {STATES} states:");
+    println!(
+        "the worst of {} families with ties and of {} houses from {} to {} (from {STATES} on where",
+        FAMILIES.len(),
+        HOUSES.len(),
+        HOUSES[0],
+        commas(HOUSES[HOUSES.len() - 1])
+    );
+    println!("the method gives every state a seat). Times in µs; the last column says on how many");
+    println!("of the inputs the library was slower:\n");
+    println!("| | worst ratio | family | house | library | plain | which plain | above 1 |");
+    println!("|---|--:|---|--:|--:|--:|---|--:|");
+    for Results { method, timed } in results {
+        let worst = &timed[0];
+        let above = timed.iter().filter(|timed| timed.times.ratio() > 1.0);
+        println!(
+            "| {} | {} | {} of {} |",
+            method.name(),
+            cells(*method, worst),
+            above.count(),
+            timed.len()
+        );
+    }
+}
+
+/// Ratio, place, times and the fastest plain program.
+fn cells(
+    method: Method,
+    Timed {
+        family,
+        house,
+        times,
+    }: &Timed,
+) -> String {
+    format!(
+        "{:.2} | {} | {house} | {} | {} | {}",
+        times.ratio(),
+        FAMILIES[*family].name,
+        micros(times.library()),
+        micros(times.plain()),
+        programs(method)[times.fastest()].0
+    )
+}
+
+fn print_programs(results: &[Results]) {
+    println!("\nThe same beside each plain program by itself:\n");
+    println!("| | plain program | worst ratio | family | house | library | plain | above 1 |");
+    println!("|---|---|--:|---|--:|--:|--:|--:|");
+    for Results { method, timed } in results {
+        for (place, (program, _)) in programs(*method).iter().enumerate().skip(1) {
+            let ratio = |timed: &Timed| timed.times.library() / timed.times.of_program(place);
+            let worst = timed
+                .iter()
+                .max_by(|a, b| ratio(a).total_cmp(&ratio(b)))
+                .expect("an input");
+            println!(
+                "| {} | {program} | {:.2} | {} | {} | {} | {} | {} of {} |",
+                method.name(),
+                ratio(worst),
+                FAMILIES[worst.family].name,
+                worst.house,
+                micros(worst.times.library()),
+                micros(worst.times.of_program(place)),
+                timed.iter().filter(|timed| ratio(timed) > 1.0).count(),
+                timed.len()
+            );
+        }
+    }
+}
+
+fn print_longest(results: &[Results]) {
+    println!("\nWhere the library takes longest among these inputs:\n");
+    println!("| | ratio | family | house | library | plain | which plain |");
+    println!("|---|--:|---|--:|--:|--:|---|");
+    for Results { method, timed } in results {
+        let longest = timed
+            .iter()
+            .max_by(|a, b| a.times.library().total_cmp(&b.times.library()))
+            .expect("an input");
+        println!("| {} | {} |", method.name(), cells(*method, longest));
+    }
+}
+
+fn print_families(results: &[Results]) {
+    println!("\nThe worst ratio to the fastest plain program in each family, and its house:\n");
+    let names: Vec<&str> = results.iter().map(|of| of.method.name()).collect();
+    println!("| | {} |", names.join(" | "));
+    println!("|---|{}", "--:|".repeat(names.len()));
+    for (family, of) in FAMILIES.iter().enumerate() {
+        let cells: Vec<String> = results
+            .iter()
+            .map(|results| {
+                let worst = results.timed.iter().find(|timed| timed.family == family);
+                let worst = worst.expect("an input of the family");
+                format!("{:.2} ({})", worst.times.ratio(), worst.house)
+            })
+            .collect();
+        println!("| {} | {} |", of.name, cells.join(" | "));
+    }
+}
