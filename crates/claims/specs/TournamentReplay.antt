@@ -137,13 +137,13 @@ abbrev pub Replaying : (before : ℕ → ℕ → Bool) (n k : ℕ) → List ℕ 
 Replaying before n k t = Except (OnWay k) before n t
 
 module _ {before : ℕ → ℕ → Bool} {n : ℕ} {t : List ℕ} where
-  replaying-next : {k : ℕ} → Replaying before n k t → 0 < k → k < n → Decidable n k t
+  pub replaying-next : {k : ℕ} → Replaying before n k t → 0 < k → k < n → Decidable n k t
   replaying-next so-far = decidable so-far (λ x. further) (λ x. on-way-le)
 
-  replaying-more : {k : ℕ} → Replaying before n k t → Decidable n k t → Replaying before n (k / 2) (decidedAt before k t)
+  pub replaying-more : {k : ℕ} → Replaying before n k t → Decidable n k t → Replaying before n (k / 2) (decidedAt before k t)
   replaying-more so-far ready = decided so-far ready here (λ x other o. past-start o other)
 
-  replayed : {k : ℕ} → Replaying before n k t → k ≡ 0 → Winners before n t
+  pub replayed : {k : ℕ} → Replaying before n k t → k ≡ 0 → Winners before n t
   replayed so-far e = none-due so-far (λ x o. omega (arith, on-way-le o))
 
   -- Every place holds a leaf from which it is on the way up.

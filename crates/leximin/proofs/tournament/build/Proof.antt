@@ -5,7 +5,7 @@ use mathlib.Core.Path.{_≡_, sym, _∙_}
 use Prim.Native.Nat.{_<_}
 use lib.ListN.{length}
 use native.Mathlib.Omega.{arith}
-use Rattle.claims.specs.TournamentReplay.{Building, building-none, building-both, building-more, built}
+use Rattle.claims.specs.TournamentReplay.{Building, building-none, building-next, building-more, built}
 use Rattle.leximin.specs.Tournament.{movesBefore}
 use Rattle.leximin.proofs.tournament.build.Statement.{statement}
 use Rattle.leximin.proofs.tournament.build.Tie as tie
@@ -56,7 +56,8 @@ better-requires c κs =
     let at-loop = at-loop-test .before in
     let at-slice-known = at-loop .before .before .before .before .before in
     let start = at-slice-known .before .before .before in
-    (start .pre .0, building-both (at-loop .loop .inv .1) (at-loop-test .loop-test .taken) (at-loop .loop .inv .0))
+    let ready = building-next (at-loop .loop .inv .1) (at-loop-test .loop-test .taken) (at-loop .loop .inv .0) in
+    (start .pre .0, (ready .first, ready .second))
 
 mul-tree : tie.Need-mul-tree Inv-loop μ-loop
 mul-tree c = search needs
@@ -76,8 +77,8 @@ loop-again : tie.Need-loop-again Inv-loop μ-loop
 loop-again c =
     let at-loop-test = c .before .before .before in
     let at-loop = at-loop-test .before in
-    let more = building-more (at-loop .loop .inv .1) (at-loop-test .loop-test .taken) (at-loop .loop .inv .0) (c .better .ensures) in
-    (omega (arith, at-loop .loop .inv .0), more)
+    let ready = building-next (at-loop .loop .inv .1) (at-loop-test .loop-test .taken) (at-loop .loop .inv .0) in
+    (omega (arith, at-loop .loop .inv .0), rw (c .better .ensures) (building-more (at-loop .loop .inv .1) ready))
 
 same-length : tie.Need-same-length Inv-loop μ-loop
 same-length c =
@@ -86,7 +87,7 @@ same-length c =
     c .before .loop .inv .1 .size ∙ sym (start .pre .1)
 
 returns : tie.Need-returns Inv-loop μ-loop
-returns c = let e : c .before .loop .k ≡ 0 = omega (arith, c .loop-test .left) in built (rw e at (c .before .loop .inv .1))
+returns c = built (c .before .loop .inv .1) (omega (arith, c .loop-test .left))
 
 pub build-spec : {M : Type 1} → statement M
 build-spec =

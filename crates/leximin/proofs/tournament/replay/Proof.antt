@@ -5,7 +5,7 @@ use mathlib.Core.Path.{_≡_, sym, _∙_}
 use Prim.Native.Nat.{_<_}
 use lib.ListN.{length}
 use native.Mathlib.Omega.{arith}
-use Rattle.claims.specs.TournamentReplay.{Replaying, replaying-both, replaying-more, replayed}
+use Rattle.claims.specs.TournamentReplay.{Replaying, replaying-next, replaying-more, replayed}
 use Rattle.leximin.specs.Tournament.{movesBefore}
 use Rattle.leximin.proofs.tournament.replay.Statement.{statement}
 use Rattle.leximin.proofs.tournament.replay.Tie as tie
@@ -49,7 +49,8 @@ better-requires c κs =
     let at-loop-test = c .before .before in
     let at-loop = at-loop-test .before in
     let start = at-loop .before .before .before .before in
-    (start .pre .0, replaying-both (at-loop .loop .inv .1) (at-loop-test .loop-test .taken) (at-loop .loop .inv .0))
+    let ready = replaying-next (at-loop .loop .inv .1) (at-loop-test .loop-test .taken) (at-loop .loop .inv .0) in
+    (start .pre .0, (ready .first, ready .second))
 
 mul-tree : tie.Need-mul-tree Inv-loop μ-loop
 mul-tree c = search needs
@@ -66,8 +67,8 @@ loop-again : tie.Need-loop-again Inv-loop μ-loop
 loop-again c =
     let at-loop-test = c .before .before .before in
     let at-loop = at-loop-test .before in
-    let more = replaying-more (at-loop .loop .inv .1) (at-loop-test .loop-test .taken) (at-loop .loop .inv .0) (c .better .ensures) in
-    (omega (arith, at-loop .loop .inv .0), more)
+    let ready = replaying-next (at-loop .loop .inv .1) (at-loop-test .loop-test .taken) (at-loop .loop .inv .0) in
+    (omega (arith, at-loop .loop .inv .0), rw (c .better .ensures) (replaying-more (at-loop .loop .inv .1) ready))
 
 same-length : tie.Need-same-length Inv-loop μ-loop
 same-length c =
@@ -75,7 +76,7 @@ same-length c =
     c .before .loop .inv .1 .size ∙ sym (start .pre .1 .due .size)
 
 returns : tie.Need-returns Inv-loop μ-loop
-returns c = let e : c .before .loop .k ≡ 0 = omega (arith, c .loop-test .left) in replayed (rw e at (c .before .loop .inv .1))
+returns c = replayed (c .before .loop .inv .1) (omega (arith, c .loop-test .left))
 
 pub replay-spec : {M : Type 1} → statement M
 replay-spec =
