@@ -10,11 +10,10 @@ mod leximin;
 mod plain;
 mod programs;
 mod sweep;
-mod timing;
 mod worst;
 
 use std::hint::black_box;
-use timing::{calls, repeat};
+use std::time::{Duration, Instant};
 
 const STATES: [usize; 3] = [10, 50, 250];
 const HOUSES: [u64; 3] = [100, 1_000, 9_999];
@@ -31,6 +30,8 @@ const METHODS: [&str; 7] = [
 const INPUTS: u64 = 4;
 /// Repeats, the best of which counts; the two desks take turns.
 const REPEATS: u32 = 40;
+/// A repeat lasts at least so long: short, so that some escape every interruption.
+const SPAN: Duration = Duration::from_micros(200);
 
 /// The library's and the reference's time for one call, in nanoseconds.
 type Times = (f64, f64);
@@ -240,4 +241,26 @@ fn time<A, B>(
         sum.1 += best.1;
     }
     (sum.0 / inputs.len() as f64, sum.1 / inputs.len() as f64)
+}
+
+/// How many calls a repeat needs to last long enough, tried twice so that one interruption does
+/// not settle it.
+fn calls<A>(run: &mut impl FnMut() -> A) -> u32 {
+    let mut calls = 1;
+    loop {
+        let one = repeat(calls, run).min(repeat(calls, run));
+        if one * calls as f64 >= SPAN.as_nanos() as f64 {
+            return calls;
+        }
+        calls *= 2;
+    }
+}
+
+/// The time of one call out of so many, in nanoseconds.
+fn repeat<A>(calls: u32, run: &mut impl FnMut() -> A) -> f64 {
+    let start = Instant::now();
+    for _ in 0..calls {
+        black_box(run());
+    }
+    start.elapsed().as_nanos() as f64 / calls as f64
 }

@@ -1,7 +1,7 @@
 //! The programs that are timed beside each other on inputs full of ties: the library, the
 //! reference and quicker plain ones, all exact.
 
-use crate::{heap, leximin, timing};
+use crate::{calls, heap, leximin, repeat};
 use reference::Method;
 use std::hint::black_box;
 
@@ -55,17 +55,25 @@ pub fn check_agreement(method: Method, house: u64, populations: &[u64]) {
 pub struct Times(Vec<f64>);
 
 impl Times {
-    /// Checks that all programs fill the same seats and times them, taking turns.
+    /// Checks that all programs fill the same seats and times them: the best of the repeats, in
+    /// which they take turns.
     pub fn of(method: Method, house: u64, populations: &[u64], repeats: u32) -> Times {
         check_agreement(method, house, populations);
-        let mut calls: Vec<Box<dyn FnMut() + '_>> = Vec::new();
+        let mut runs: Vec<Box<dyn FnMut() + '_>> = Vec::new();
         for (_, fill) in programs(method) {
             let mut seats = vec![0; populations.len()];
-            calls.push(Box::new(move || {
+            runs.push(Box::new(move || {
                 fill(method, house, black_box(populations), black_box(&mut seats))
             }));
         }
-        Times(timing::best_times(&mut calls, repeats))
+        let counts: Vec<u32> = runs.iter_mut().map(calls).collect();
+        let mut best = vec![f64::INFINITY; runs.len()];
+        for _ in 0..repeats {
+            for (i, run) in runs.iter_mut().enumerate() {
+                best[i] = best[i].min(repeat(counts[i], run));
+            }
+        }
+        Times(best)
     }
 
     /// Keeps the better of two times of each program.
