@@ -11,10 +11,8 @@ ghost use Prim.Native.Nat.{_*_, _<_};
 ghost use lib.ListN.{length};
 ghost use Rattle.divisor.specs.Moves.{AllCounted, Moves, Played, Turn, Turned, movedBy, movedOnce, movedSeats};
 
-// For so few seats, or among so few states, a scan for each seat is faster than a tournament.
-const FEW_SEATS: u64 = 3;
-
-const FEW_STATES: usize = 16;
+// Scans that look at so few states in all are faster than making a tournament, and so is a single scan.
+const FEW: u64 = 96;
 
 // A state's seats after a move: one more, or one less and none of none.
 fn moved(up: bool, x: u64) -> u64
@@ -96,10 +94,10 @@ fn scan_moves(method: Method, up: bool, populations: &[u64], times: u64, seats: 
 
 // Is going through all states for each seat faster than making a tournament?
 fn few(times: u64, states: usize) -> bool {
-    if times < FEW_SEATS {
+    if times < 2 {
         return true;
     }
-    states < FEW_STATES
+    states as u64 <= FEW / times
 }
 
 // Places so many seats, or withdraws them.
