@@ -10,7 +10,7 @@ use native.Mathlib.Nat.{le-trans, le-of-lt, lt-suc-self, eq-or-lt-of-le}
 use native.Mathlib.Omega.{arith}
 use native.Mathlib.Numerals.{add-one}
 use lib.Dec.{ltb}
-use borrow.Author.Tests.{lt-ltb, le-ltb, ltb-true, ltb-false}
+use borrow.Author.Tests.{lt-ltb, ltb-true, ltb-false}
 use Rattle.apportionment.specs.Quantities.{less, distance, sizeOf}
 use Rattle.claims.specs.Fractions.{less-asymmetric}
 use Rattle.claims.specs.SizeClaims.{moveBefore, sizeBefore}

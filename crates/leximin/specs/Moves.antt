@@ -25,10 +25,14 @@ use Rattle.claims.specs.Tournament.{winner-lt, root-is-first}
 use Rattle.claims.specs.TournamentReplay.{replaying-start}
 use Rattle.leximin.specs.Scan.{Workable}
 use Rattle.leximin.specs.Start.{Ready, ready-sound, ready-counts, start-workable}
-use Rattle.leximin.specs.Quotients.{Sided}
+use Rattle.leximin.specs.Quotients.{Side, Sided}
 use Rattle.leximin.specs.Tournament.{movesBefore, Champions, Moved, moves-pass, moves-agree}
 
--- So many seats moved: placed where `up` is true, and withdrawn otherwise.
+-- One seat moved: placed where `up` is true, and withdrawn otherwise.
+unfoldable pub movedOnce : (up : Bool) (ps : List ℕ) (H : ℕ) (xs : List ℕ) → List ℕ
+movedOnce up ps H xs = cond up (placed (sizeTest ps H) (length ps) xs) (withdrawn oneEach (sizeTest ps H) (length ps) xs)
+
+-- So many seats moved.
 unfoldable pub movedTimes : (up : Bool) (ps : List ℕ) (H : ℕ) (xs : List ℕ) (k : ℕ) → List ℕ
 movedTimes up ps H xs k =
     cond up (placedTimes (sizeTest ps H) (length ps) xs k) (withdrawnTimes oneEach (sizeTest ps H) (length ps) xs k)
@@ -61,7 +65,7 @@ placed-at-least lt n xs some states (suc k) i =
 
 -- ---- each move leaves seats that a move can be made with
 
-module _ {ps : List ℕ} {P H : ℕ} (r : Ready ps P H) (k : ℕ) where
+module _ {ps : List ℕ} {P H : ℕ} (r : Ready ps P H) where
   abbrev n : ℕ
   n = length ps
 
@@ -74,46 +78,34 @@ module _ {ps : List ℕ} {P H : ℕ} (r : Ready ps P H) (k : ℕ) where
   s : Sound ps H
   s = ready-sound r
 
-  placed-sided : sum (startSeats ps H) + k ≤ houseLimit → Sided true ps (placedTimes (sizeTest ps H) (length ps) (startSeats ps H) k) P H
-  placed-sided room =
+  sided : (up : Bool) {xs : List ℕ} → length xs ≡ n → ((i : ℕ) → getD xs i 0 ≤ houseLimit) → ((i : ℕ) → i < n → 1 ≤ getD xs i 0)
+      → ((i : ℕ) → Side up (getD start i 0) (getD xs i 0)) → Sided up ps xs P H
+  sided up states fit least side =
       record {
         seated =
             record {
-              workable =
-                  record {
-                    counts = ready-counts r;
-                    someState = s .someState;
-                    states = length-placedTimes n lt start k ∙ length-start ps H;
-                    seatsFit = λ i. le-trans (entry-at-most-sum (placedTimes lt n start k) i)
-                        (rw (sum-placedTimes n lt start k (s .someState) (length-start ps H)) room);
-                  };
-              least = placedTimes-standing n oneEach lt (size-order s) start k (s .someState) (start-standing s) .least;
+              workable = record { counts = ready-counts r; someState = s .someState; states = states; seatsFit = fit };
+              least = least;
             };
         sound = s;
         few = r .problem .statesWithin;
-        side = λ i inside. rw (← start-at ps H i inside) (placed-at-least lt n start (s .someState) (length-start ps H) k i);
+        side = λ i inside. rw (← start-at ps H i inside) (side i);
       }
 
-  withdrawn-sided : length ps + k ≤ sum (startSeats ps H)
-      → Sided false ps (withdrawnTimes oneEach (sizeTest ps H) (length ps) (startSeats ps H) k) P H
-  withdrawn-sided room =
-      record {
-        seated =
-            record {
-              workable =
-                  record {
-                    counts = ready-counts r;
-                    someState = s .someState;
-                    states = length-withdrawnTimes n oneEach lt start k ∙ length-start ps H;
-                    seatsFit = λ i. le-trans (withdrawn-at-most oneEach lt n start k i) (start-workable r .seatsFit i);
-                  };
-              least = withdrawnTimes-standing n oneEach lt (size-order s) start k (s .someState) (start-standing s)
-                  (rw (sum-listOf-one n) room) .least;
-            };
-        sound = s;
-        few = r .problem .statesWithin;
-        side = λ i inside. rw (← start-at ps H i inside) (withdrawn-at-most oneEach lt n start k i);
-      }
+  placed-sided : (k : ℕ) → sum start + k ≤ houseLimit → Sided true ps (placedTimes lt n start k) P H
+  placed-sided k room =
+      sided true (length-placedTimes n lt start k ∙ length-start ps H)
+      (λ i. le-trans (entry-at-most-sum (placedTimes lt n start k) i)
+      (rw (sum-placedTimes n lt start k (s .someState) (length-start ps H)) room))
+      (placedTimes-standing n oneEach lt (size-order s) start k (s .someState) (start-standing s) .least)
+      (placed-at-least lt n start (s .someState) (length-start ps H) k)
+
+  withdrawn-sided : (k : ℕ) → n + k ≤ sum start → Sided false ps (withdrawnTimes oneEach lt n start k) P H
+  withdrawn-sided k room =
+      sided false (length-withdrawnTimes n oneEach lt start k ∙ length-start ps H)
+      (λ i. le-trans (withdrawn-at-most oneEach lt n start k i) (start-workable r .seatsFit i))
+      (withdrawnTimes-standing n oneEach lt (size-order s) start k (s .someState) (start-standing s) (rw (sum-listOf-one n) room) .least)
+      (withdrawn-at-most oneEach lt n start k)
 
 pub moved-sided : {ps xs : List ℕ} {P H times : ℕ} (up : Bool) → Movable up ps xs P H times → (k : ℕ) → k ≤ times
     → Sided up ps (movedTimes up ps H xs k) P H
@@ -136,14 +128,19 @@ none-moved false ps H xs = refl
 pub movable-sided : {up : Bool} {ps xs : List ℕ} {P H times : ℕ} → Movable up ps xs P H times → Sided up ps xs P H
 movable-sided {up} {ps} {xs} {P} {H} m = rw (none-moved up ps H xs) (moved-sided up m 0 zero-le)
 
--- One more move is one by the state that a scan picks.
-one-more-moved : (up : Bool) (ps : List ℕ) (H : ℕ) (xs : List ℕ) (k : ℕ)
-    → let ys = movedTimes up ps H xs k in
-    let j = firstPlace (movesBefore up ps H ys) (length ps - 1) in
-    movedTimes up ps H xs (k + 1) ≡ set ys j (movedBy up (getD ys j 0))
-unfolding movedTimes movedBy movesBefore placedTimes placed oneMore firstUnmet withdrawnTimes withdrawn oneLess lastMet
+pub one-more-moved : (up : Bool) (ps : List ℕ) (H : ℕ) (xs : List ℕ) (k : ℕ)
+    → movedTimes up ps H xs (k + 1) ≡ movedOnce up ps H (movedTimes up ps H xs k)
+unfolding movedTimes movedOnce placedTimes withdrawnTimes
 one-more-moved true ps H xs k = rw (add-one k)
 one-more-moved false ps H xs k = rw (add-one k)
+
+-- A move is one by the state that a scan picks.
+moved-by-first : (up : Bool) (ps : List ℕ) (H : ℕ) (xs : List ℕ)
+    → let j = firstPlace (movesBefore up ps H xs) (length ps - 1) in
+    movedOnce up ps H xs ≡ set xs j (movedBy up (getD xs j 0))
+unfolding movedOnce movedBy movesBefore placed oneMore firstUnmet withdrawn oneLess lastMet
+moved-by-first true ps H xs = refl
+moved-by-first false ps H xs = refl
 
 module _ {up : Bool} {ps xs₀ xs t : List ℕ} {P H times done : ℕ}
     (m : Movable up ps xs₀ P H times) (so-far : Moving up ps xs₀ H done xs t) where
@@ -162,7 +159,7 @@ module _ {up : Bool} {ps xs₀ xs t : List ℕ} {P H times done : ℕ}
       pub root-moved : set xs j v ≡ movedTimes up ps H xs₀ (done + 1)
       root-moved =
           let first = root-is-first (so-far .winners) (moves-pass up (moving-sided (omega arith))) (m .ready .problem .someState) in
-          rw (one-more-moved up ps H xs₀ done, ← so-far .seats, ← first, ← root) (rw move)
+          rw (one-more-moved up ps H xs₀ done, ← so-far .seats, moved-by-first up ps H xs, ← first, ← root) (rw move)
 
       pub root-due : Sided up ps (set xs j v) P H × Moved up ps H (set xs j v) j t
       root-due = (

@@ -1,4 +1,4 @@
-// One seat placed or withdrawn, by a scan; and several in turn, by a tournament.
+// One seat placed or withdrawn, by a scan; and several in turn, by scans or by a tournament, whichever is cheaper.
 use crate::scan::first_unmet;
 use crate::scan::last_met;
 use crate::tournament::build;
@@ -11,7 +11,7 @@ ghost use Rattle.apportionment.specs.Limits.{houseLimit};
 ghost use Rattle.claims.specs.Order.{placed, withdrawn};
 ghost use Rattle.claims.specs.SizeClaims.{sizeTest, oneEach};
 ghost use Rattle.leximin.specs.Scan.{Workable, Seated};
-ghost use Rattle.leximin.specs.Moves.{movedBy, movedTimes, Movable};
+ghost use Rattle.leximin.specs.Moves.{movedOnce, movedTimes, movedBy, Movable};
 
 // The first claim not met is met.
 pub fn place(populations: &[u64], seats: &mut [u64], total: u64, house: u64)
@@ -29,6 +29,37 @@ pub fn withdraw(populations: &[u64], seats: &mut [u64], total: u64, house: u64)
 {
     let at = last_met(populations, &seats[..], total, house);
     seats[at] = seats[at] - 1;
+}
+
+// One seat moved: placed where `up` is true, and withdrawn otherwise.
+fn move_once(up: bool, populations: &[u64], seats: &mut [u64], total: u64, house: u64)
+    requires { ⌜ Seated (now populations) (now seats) total house ⌝ }
+    ensures { λ _. ⌜ now (seats .exit) ≡ movedOnce up (now (populations .entry)) house (now (seats .entry)) ⌝ }
+{
+    if up {
+        place(populations, &mut seats[..], total, house);
+        return;
+    }
+    withdraw(populations, &mut seats[..], total, house);
+}
+
+// Moves so many seats, each by a scan of all states.
+fn move_by_scans(
+    up: bool,
+    populations: &[u64],
+    seats: &mut [u64],
+    total: u64,
+    house: u64,
+    times: u64,
+)
+    requires { ⌜ Movable up (now populations) (now seats) total house times ⌝ }
+    ensures { λ _. ⌜ now (seats .exit) ≡ movedTimes up (now (populations .entry)) house (now (seats .entry)) times ⌝ }
+{
+    let mut done = 0;
+    while done < times {
+        move_once(up, populations, &mut seats[..], total, house);
+        done += 1;
+    }
 }
 
 // A state's seats after its move.
@@ -76,6 +107,13 @@ fn move_by_tournament(
 // The places of a tournament among as many states as a register may have.
 const PLACES: usize = 500;
 
+// Scans are cheaper than a tournament for one seat, for two among up to 32 states, for three among up to 16, and so on.
+fn scans_pay(states: usize, times: u64) -> bool
+    requires { ⌜ 0 < states ⌝ }
+{
+    times < (2 + 32 / states) as u64
+}
+
 // Places so many seats where `up` is true, and withdraws so many otherwise.
 pub fn move_times(
     up: bool,
@@ -88,7 +126,8 @@ pub fn move_times(
     requires { ⌜ Movable up (now populations) (now seats) total house times ⌝ }
     ensures { λ _. ⌜ now (seats .exit) ≡ movedTimes up (now (populations .entry)) house (now (seats .entry)) times ⌝ }
 {
-    if times == 0 {
+    if scans_pay(populations.len(), times) {
+        move_by_scans(up, populations, &mut seats[..], total, house, times);
         return;
     }
     let mut tree = [0u16; PLACES];

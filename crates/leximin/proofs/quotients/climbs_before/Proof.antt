@@ -23,7 +23,12 @@ returns c =
     let at-rises2 = at-if1 .before in
     let at-rises = at-rises2 .before in
     let start = at-rises .before in
-    simp (climbs-compared (start .pre .0) (start .pre .1), sym (at-rises2 .rises2 .ensures) ∙ at-if1 .if1 .taken, sym (at-rises .rises .ensures) ∙ c .before .if2 .taken, c .rises-before .ensures)
+    simp (
+      climbs-compared (start .pre .0) (start .pre .1),
+      sym (at-rises2 .rises2 .ensures) ∙ at-if1 .if1 .taken,
+      sym (at-rises .rises .ensures) ∙ c .before .if2 .taken,
+      c .rises-before .ensures,
+    )
 
 returns-2 : tie.Need-returns-2
 unfolding climbsBefore
@@ -31,11 +36,20 @@ returns-2 c =
     let at-rises2 = c .before .before in
     let at-rises = at-rises2 .before in
     let start = at-rises .before in
-    simp (climbs-compared (start .pre .0) (start .pre .1), sym (at-rises2 .rises2 .ensures) ∙ c .before .if1 .taken, sym (at-rises .rises .ensures) ∙ c .if2 .left)
+    simp (
+      climbs-compared (start .pre .0) (start .pre .1),
+      sym (at-rises2 .rises2 .ensures) ∙ c .before .if1 .taken,
+      sym (at-rises .rises .ensures) ∙ c .if2 .left,
+    )
 
 returns-3 : tie.Need-returns-3
 unfolding climbsBefore
-returns-3 c = simp (climbs-compared (c .before .before .before .pre .0) (c .before .before .before .pre .1), sym (c .before .rises2 .ensures) ∙ c .if1 .left, c .before .before .rises .ensures)
+returns-3 c =
+    simp (
+      climbs-compared (c .before .before .before .pre .0) (c .before .before .before .pre .1),
+      sym (c .before .rises2 .ensures) ∙ c .if1 .left,
+      c .before .before .rises .ensures,
+    )
 
 pub climbs-before-spec : {M : Type 1} → statement M
 climbs-before-spec =

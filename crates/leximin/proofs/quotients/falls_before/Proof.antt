@@ -22,7 +22,12 @@ returns c = simp (falls-compared (c .before .pre .0) (c .before .pre .1), lt-ltb
 
 returns-2 : tie.Need-returns-2
 unfolding fallsBefore
-returns-2 c = simp (falls-compared (c .before .before .pre .0) (c .before .before .pre .1), le-ltb _ _ (c .before .if1 .left), lt-ltb _ _ (c .if2 .taken))
+returns-2 c =
+    simp (
+      falls-compared (c .before .before .pre .0) (c .before .before .pre .1),
+      le-ltb _ _ (c .before .if1 .left),
+      lt-ltb _ _ (c .if2 .taken),
+    )
 
 add-size-of : tie.Need-add-size-of
 add-size-of c = search needs
@@ -46,7 +51,12 @@ returns-3 c =
     let at-if2 = at-size-of .before in
     let at-if1 = at-if2 .before in
     let start = at-if1 .before in
-    simp (falls-compared (start .pre .0) (start .pre .1), le-ltb _ _ (at-if1 .if1 .left), le-ltb _ _ (at-if2 .if2 .left), c .size-less .ensures ∙ sizes-compared (start .pre .0 .0 .peopled) (at-size-of .size-of .ensures) (c .before .size-of2 .ensures))
+    simp (
+      falls-compared (start .pre .0) (start .pre .1),
+      le-ltb _ _ (at-if1 .if1 .left),
+      le-ltb _ _ (at-if2 .if2 .left),
+      c .size-less .ensures ∙ sizes-compared (start .pre .0 .0 .peopled) (at-size-of .size-of .ensures) (c .before .size-of2 .ensures),
+    )
 
 pub falls-before-spec : {M : Type 1} → statement M
 falls-before-spec =

@@ -46,7 +46,11 @@ returns-3 c =
     let at-if2 = at-size-of .before in
     let at-if1 = at-if2 .before in
     let start = at-if1 .before in
-    simp (le-ltb _ _ (at-if1 .if1 .left), le-ltb _ _ (at-if2 .if2 .left), c .size-less .ensures ∙ sizes-compared (start .pre .0 .peopled) (c .before .size-of2 .ensures) (at-size-of .size-of .ensures))
+    simp (
+      le-ltb _ _ (at-if1 .if1 .left),
+      le-ltb _ _ (at-if2 .if2 .left),
+      c .size-less .ensures ∙ sizes-compared (start .pre .0 .peopled) (c .before .size-of2 .ensures) (at-size-of .size-of .ensures),
+    )
 
 pub rises-before-spec : {M : Type 1} → statement M
 rises-before-spec =

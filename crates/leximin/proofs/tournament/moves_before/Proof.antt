@@ -1,6 +1,5 @@
 -- `leximin::tournament::moves_before` meets its contract: the direction picks the order.
 -- Assumes nothing.
-use borrow.Author.Needs.{needs}
 use mathlib.Core.Path.{_∙_}
 use Rattle.leximin.specs.Tournament.{movesBefore}
 use Rattle.leximin.proofs.tournament.moves_before.Statement.{statement}
