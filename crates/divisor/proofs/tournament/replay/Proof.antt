@@ -46,7 +46,7 @@ better-of-requires c κs =
     record {
       all = start .pre .0;
       one = won-lt (turn .loop .inv);
-      other = rw (found .beside-of .ensures) (beside-lt (turn .loop .inv) (test .loop-test .taken));
+      other = rw (found .beside-of .ensures) (beside-lt (turn .loop .inv) (omega (arith, test .loop-test .taken)));
     }
 
 mul-tree : tie.Need-mul-tree Inv-loop μ-loop
@@ -69,7 +69,7 @@ loop-again c =
     let found = c .before .before in
     let test = found .before in
     let turn = test .before .loop in
-    climbing-more (turn .inv) (test .loop-test .taken) (rw (← found .beside-of .ensures) (c .better-of .ensures))
+    climbing-more (turn .inv) (omega (arith, test .loop-test .taken)) (rw (← found .beside-of .ensures) (c .better-of .ensures))
 
 same-length : tie.Need-same-length Inv-loop μ-loop
 same-length c =
@@ -78,7 +78,7 @@ same-length c =
     turn .loop .inv .above .size ∙ sym (start .pre .1 .1 .size)
 
 returns : tie.Need-returns Inv-loop μ-loop
-returns c = climbed (c .before .loop .inv) (c .loop-test .left)
+returns c = climbed (c .before .loop .inv) (omega (arith, c .loop-test .left))
 
 pub replay-spec : {M : Type 1} → statement M
 replay-spec =
