@@ -4,6 +4,7 @@ use crate::scan::last_met;
 use crate::tournament::build;
 use crate::tournament::replay;
 use crate::tournament::wide;
+use apportionment::STATE_LIMIT;
 ghost use mathlib.Core.Path.{_≡_};
 ghost use Prim.Native.Nat.{_*_, _<_, _≤_};
 ghost use lib.ListN.{length};
@@ -105,7 +106,7 @@ fn move_by_tournament(
 }
 
 // The places of a tournament among as many states as a register may have.
-const PLACES: usize = 500;
+const PLACES: usize = 2 * STATE_LIMIT;
 
 // Scans are cheaper than a tournament for one seat, for two among up to 32 states, for three among up to 16, and so on.
 fn scans_pay(states: usize, times: u64) -> bool
