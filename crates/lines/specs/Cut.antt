@@ -7,6 +7,7 @@ use mathlib.Core.List.{List}
 use Prim.Native.Nat.{ℕ, _+_}
 use borrow.Author.Tests.{eqb-true, eq-eqb, ne-eqb}
 use lib.Dec.{leb, eqb}
+use lib.ListN.{length}
 use Rattle.apportionment.specs.Limits.{sumLimit}
 use Rattle.apportionment.specs.Refusals.{accepted, lineIllFormed, numberOutOfLimits, nameUsed, runningSumTooLarge}
 use Rattle.apportionment.specs.Lists.{sameList}
@@ -46,11 +47,11 @@ pub pair-formed : (passes : Bool) (s : List ℕ) → pairFormed (ended s) passes
 unfolding pairFormed isPair
 pair-formed passes s = refl
 
--- The refusal of a well-formed state's line by its name and its population: 3, 5, 6 in this order, or 0.
-unfoldable pub entryRefusal : (first : List ℕ) (k sum : ℕ) (name : List ℕ) (p : ℕ) → ℕ
-entryRefusal first k sum name p =
+-- The refusal of a well-formed state's line by its population and whether its name was used before: 3, 5, 6 in this order, or 0.
+unfoldable pub entryRefusal : (used : Bool) (sum p : ℕ) → ℕ
+entryRefusal used sum p =
     cond (within sumLimit p)
-    (cond (usedIn k first name) nameUsed
+    (cond used nameUsed
     (cond (leb (sum + p) sumLimit) accepted runningSumTooLarge))
     numberOutOfLimits
 
@@ -58,14 +59,15 @@ entryRefusal first k sum name p =
 
 -- A line that is refused hands on its refusal alone.
 unfoldable pub lineRefused : (refusal : ℕ) → StateLine
-lineRefused refusal = record { refusal = refusal; population = 0; print = 0; end = 0 }
+lineRefused refusal = record { refusal = refusal; population = 0; print = 0; width = 0; end = 0 }
 
--- A line that is not refused hands on its population, its name's fingerprint, and the place where it ends.
+-- A line that is not refused hands on its population, its name's fingerprint and length, and the place where it ends.
 unfoldable pub lineRead : List ℕ → StateLine
 lineRead s = record {
   refusal = accepted;
   population = numberAt s;
   print = fingerprintOf (nameAt s);
+  width = length (nameAt s);
   end = placeOf lineFeed s;
 }
 
@@ -81,13 +83,13 @@ unfolding stateLineOf stateRefusal
 line-ill-formed first k sum s ill = rw ill
 
 pub line-refused : (first : List ℕ) (k sum : ℕ) (s : List ℕ) → isStateLine s ≡ true
-    → (entryRefusal first k sum (nameAt s) (numberAt s) ≡ accepted → ⊥)
-    → stateLineOf first k sum s ≡ lineRefused (entryRefusal first k sum (nameAt s) (numberAt s))
+    → (entryRefusal (usedIn k first (nameAt s)) sum (numberAt s) ≡ accepted → ⊥)
+    → stateLineOf first k sum s ≡ lineRefused (entryRefusal (usedIn k first (nameAt s)) sum (numberAt s))
 unfolding stateLineOf stateRefusal entryRefusal
 line-refused first k sum s formed bad = rw (formed, ne-eqb _ accepted bad)
 
 pub line-accepted : (first : List ℕ) (k sum : ℕ) (s : List ℕ) → isStateLine s ≡ true
-    → entryRefusal first k sum (nameAt s) (numberAt s) ≡ accepted → stateLineOf first k sum s ≡ lineRead s
+    → entryRefusal (usedIn k first (nameAt s)) sum (numberAt s) ≡ accepted → stateLineOf first k sum s ≡ lineRead s
 unfolding stateLineOf stateRefusal entryRefusal
 line-accepted first k sum s formed good = rw (formed, eq-eqb _ accepted good)
 

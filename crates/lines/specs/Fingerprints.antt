@@ -1,17 +1,15 @@
--- Fingerprints of names: a number for each name, so that a name is looked for on the lines before its own only where its number
--- stands among theirs. What reading gives does not speak of them: a reader who only wants the grammar need not read this file.
+-- Fingerprints of names: a number for each name, so that a name is compared with those of the lines before its own only where its
+-- number is theirs. What reading gives does not speak of them: a reader who only wants the grammar need not read this file.
 -- Assumes nothing.
 use mathlib.Core.Path.{_≡_, refl}
-use mathlib.Core.Bool.{Bool, true, false, cond, _||_, true≢false}
+use mathlib.Core.Bool.{Bool, true, false, _||_, true≢false}
 use mathlib.Core.List.{List, [], _∷_}
 use Prim.Native.Nat.{ℕ, zero, suc, _+_, _*_, _%_, _<_, _≤_}
+use native.Mathlib.Omega.{arith}
 use borrow.Author.Tests.{eqb-false}
 use lib.Dec.{eqb}
 use lib.ListN.{length, getD, drop, drop-of-length-le}
-use Rattle.apportionment.specs.Lists.{sameList, same-list-equal}
-use Rattle.fields.specs.Grammar.{restOf}
 use Rattle.fields.specs.Parts.{drop-step}
-use Rattle.lines.specs.Lines.{nameAt, usedIn}
 
 -- ---- the fingerprint of a name
 
@@ -58,29 +56,14 @@ unfolding holds
 holds-end true x ys i past = refl
 holds-end false x ys i past = rw (drop-of-length-le ys past)
 
--- ---- the names of the lines before
-
--- The fingerprints of the names on the first k lines from here on.
-unfoldable pub fingerprintsOf : (k : ℕ) → List ℕ → List ℕ
-fingerprintsOf zero s = []
-fingerprintsOf (suc k) s = fingerprintOf (nameAt s) ∷ fingerprintsOf k (restOf s)
-
--- A name whose fingerprint is on none of the lines is on none of them.
-pub unused-without-fingerprint : (k : ℕ) (s name : List ℕ) → holds (fingerprintOf name) (fingerprintsOf k s) ≡ false
-    → usedIn k s name ≡ false
-unfolding usedIn fingerprintsOf holds
-unused-without-fingerprint zero s name none = refl
-unused-without-fingerprint (suc k) s name none =
-    by-tests (sameList (nameAt s) name) (eqb (fingerprintOf (nameAt s)) (fingerprintOf name)) refl refl none
-    (unused-without-fingerprint k (restOf s) name)
+-- A number that a list does not hold stands at none of its places.
+pub holds-not : (x : ℕ) (ys : List ℕ) → holds x ys ≡ false → (i : ℕ) → i < length ys → getD ys i 0 ≡ x → ⊥
+unfolding holds
+holds-not x [] none i inside equal = omega arith
+holds-not x (y ∷ ys) none i inside equal = by-test (eqb y x) i refl none inside equal (holds-not x ys)
   where
-    rest : Bool
-    rest = holds (fingerprintOf name) (fingerprintsOf k (restOf s))
-
-    by-tests : (t u : Bool) → sameList (nameAt s) name ≡ t → eqb (fingerprintOf (nameAt s)) (fingerprintOf name) ≡ u
-        → (u || rest) ≡ false → (rest ≡ false → usedIn k (restOf s) name ≡ false)
-        → cond t true (usedIn k (restOf s) name) ≡ false
-    by-tests t true same equal found later = absurd (true≢false found)
-    by-tests false false same equal found later = later found
-    by-tests true false same equal found later =
-        absurd (eqb-false (fingerprintOf (nameAt s)) (fingerprintOf name) equal (rw (same-list-equal (nameAt s) name same)))
+    by-test : (t : Bool) (i : ℕ) → eqb y x ≡ t → (t || holds x ys) ≡ false → i < length (y ∷ ys) → getD (y ∷ ys) i 0 ≡ x
+        → (holds x ys ≡ false → (j : ℕ) → j < length ys → getD ys j 0 ≡ x → ⊥) → ⊥
+    by-test true i here none inside equal later = true≢false none
+    by-test false zero here none inside equal later = eqb-false y x here equal
+    by-test false (suc i) here none inside equal later = later none i (omega arith) equal

@@ -1,4 +1,5 @@
--- The lines of a register, each with its checks; fingerprints of names and lines cut once, for speed.
+-- The lines of a register, each with its checks; for speed, fingerprints of names, where they stand, and lines cut once.
 pub mod Lines
 pub mod Fingerprints
+pub mod Places
 pub mod Cut

@@ -4,8 +4,7 @@
 use mathlib.Core.Path.{_≡_, refl}
 use mathlib.Core.Bool.{Bool, true, false, cond}
 use mathlib.Core.List.{List}
-use Prim.Native.Nat.{ℕ, zero, suc, _+_, _-_, _<_, _≤_}
-use native.Mathlib.Numerals.{sub-one}
+use Prim.Native.Nat.{ℕ, zero, suc, _+_, _≤_}
 use native.Mathlib.Omega.{arith}
 use borrow.Author.Tests.{leb-true}
 use lib.Dec.{leb, eqb}
@@ -122,22 +121,6 @@ pair-parts passes s pair = both passes _ (both (ended s) _ pair .1)
 unfoldable pub usedIn : (k : ℕ) (s name : List ℕ) → Bool
 usedIn zero s name = false
 usedIn (suc k) s name = cond (sameList (nameAt s) name) true (usedIn k (restOf s) name)
-
-pub used-none : (k : ℕ) (s name : List ℕ) → k ≤ 0 → usedIn k s name ≡ false
-unfolding usedIn
-used-none zero s name none = refl
-used-none (suc k) s name none = absurd (omega arith)
-
-pub used-found : (k : ℕ) (s name : List ℕ) → 0 < k → sameList (nameAt s) name ≡ true → usedIn k s name ≡ true
-unfolding usedIn
-used-found zero s name some same = absurd (omega arith)
-used-found (suc k) s name some same = rw same
-
-pub used-passed : (k : ℕ) (s name : List ℕ) → 0 < k → sameList (nameAt s) name ≡ false
-    → usedIn k s name ≡ usedIn (k - 1) (restOf s) name
-unfolding usedIn
-used-passed zero s name some other = absurd (omega arith)
-used-passed (suc k) s name some other = rw (other, sub-one (suc k))
 
 -- A state's line: a name and a number.
 unfoldable pub isStateLine : List ℕ → Bool

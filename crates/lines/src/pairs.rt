@@ -10,15 +10,18 @@ use fields::words;
 ghost use mathlib.Core.Path.{_≡_};
 ghost use Prim.Native.Nat.{_≤_};
 ghost use Rattle.apportionment.specs.Limits.{sumLimit};
+ghost use Rattle.apportionment.specs.Lists.{sameList};
 ghost use Rattle.lines.specs.Lines.{nameAt, usedIn, closingRefusal};
-ghost use Rattle.lines.specs.Fingerprints.{fingerprintOf, fingerprintsOf};
+ghost use Rattle.lines.specs.Fingerprints.{fingerprintOf};
+ghost use Rattle.lines.specs.Places.{partOf, Stands, NamesKept};
 ghost use Rattle.lines.specs.Cut.{pairFormed, entryRefusal, lineRefused, stateLineOf};
 
-// What a state's line says: its refusal, or 0 and the population, the name's fingerprint and the place where the line ends.
+// What a state's line says: its refusal, or 0 and the population, the name's fingerprint and length, and the place where the line ends.
 pub struct StateLine {
     pub refusal: u64,
     pub population: u64,
     pub print: u32,
+    pub width: usize,
     pub end: usize,
 }
 
@@ -42,51 +45,69 @@ fn is_pair(ended: bool, passes: bool, digits: &[u8]) -> bool
     numbers::is_number(digits)
 }
 
-// Whether the name stands on one of the `k` lines from here on.
-fn used_in(k: usize, s: &[u8], name: &[u8]) -> bool
-    ensures { λ r. ⌜ r ≡ usedIn k (now (s .entry)) (now (name .entry)) ⌝ }
+// Whether the name that stands from `a` to `e` and has the fingerprint `its` is `name`, whose fingerprint is `print`. Bytes are compared
+// only where the fingerprints are equal.
+fn is_name_there(s: &[u8], a: usize, e: usize, its: u32, name: &[u8], print: u32) -> bool
+    requires { ⌜ Stands (now s) (partOf (now s) a e) its a e × (print ≡ fingerprintOf (now name)) ⌝ }
+    ensures { λ r. ⌜ r ≡ sameList (partOf (now (s .entry)) a e) (now (name .entry)) ⌝ }
 {
-    let mut t = s;
-    let mut left = k;
-    while 0 < left {
-        if parts::same(name_at(t), name) {
+    if its != print {
+        return false;
+    }
+    parts::same(&s[a..e], name)
+}
+
+// Whether the name is one of the `k` that are kept.
+fn is_kept(
+    k: usize,
+    first: &[u8],
+    prints: &[u32],
+    starts: &[usize],
+    ends: &[usize],
+    name: &[u8],
+    print: u32,
+) -> bool
+    requires { ⌜ NamesKept k (now first) (now prints) (now starts) (now ends) × (print ≡ fingerprintOf (now name)) ⌝ }
+    ensures { λ r. ⌜ r ≡ usedIn k (now (first .entry)) (now (name .entry)) ⌝ }
+{
+    let mut i = 0;
+    while i < k {
+        if is_name_there(first, starts[i], ends[i], prints[i], name, print) {
             return true;
         }
-        let u = cut::rest(t);
-        t = u;
-        left -= 1;
+        i += 1;
     }
     false
 }
 
-// Whether the name, whose fingerprint is `print`, stands on one of the `k` lines from here on, whose names have those of `prints`.
-fn is_used(k: usize, s: &[u8], prints: &[u32], name: &[u8], print: u32) -> bool
-    requires { ⌜ (now prints ≡ fingerprintsOf k (now s)) × (print ≡ fingerprintOf (now name)) ⌝ }
-    ensures { λ r. ⌜ r ≡ usedIn k (now (s .entry)) (now (name .entry)) ⌝ }
-{
-    if !holds(prints, print) {
-        return false;
-    }
-    used_in(k, s, name)
-}
-
-// The refusal of a well-formed state's line, by its name and population, after the lines that `read_state` speaks of.
-fn entry_refusal(
-    first: &[u8],
+// Whether the name is one of the `k` that are kept. Most names are not, which their fingerprints show.
+fn is_used(
     k: usize,
+    first: &[u8],
     prints: &[u32],
-    sum: u64,
+    starts: &[usize],
+    ends: &[usize],
     name: &[u8],
     print: u32,
-    p: u64,
-) -> u64
-    requires { ⌜ (sum ≤ sumLimit) × (now prints ≡ fingerprintsOf k (now first)) × (print ≡ fingerprintOf (now name)) ⌝ }
-    ensures { λ r. ⌜ r ≡ entryRefusal (now (first .entry)) k sum (now (name .entry)) p ⌝ }
+) -> bool
+    requires { ⌜ NamesKept k (now first) (now prints) (now starts) (now ends) × (print ≡ fingerprintOf (now name)) ⌝ }
+    ensures { λ r. ⌜ r ≡ usedIn k (now (first .entry)) (now (name .entry)) ⌝ }
+{
+    if !holds(&prints[..k], print) {
+        return false;
+    }
+    is_kept(k, first, prints, starts, ends, name, print)
+}
+
+// The refusal of a well-formed state's line, by whether its name was used and by its population, after lines that sum to `sum`.
+fn entry_refusal(used: bool, sum: u64, p: u64) -> u64
+    requires { ⌜ sum ≤ sumLimit ⌝ }
+    ensures { λ r. ⌜ r ≡ entryRefusal used sum p ⌝ }
 {
     if !numbers::within(p, SUM_LIMIT) {
         return refusals::NUMBER_OUT_OF_LIMITS;
     }
-    if is_used(k, first, prints, name, print) {
+    if used {
         return refusals::NAME_USED;
     }
     if SUM_LIMIT < sum + p {
@@ -102,13 +123,23 @@ fn refused(refusal: u64) -> StateLine
         refusal,
         population: 0,
         print: 0,
+        width: 0,
         end: 0,
     }
 }
 
-// Reads a state's line after `k` others, which start at `first`, sum to `sum` and have names with the fingerprints `prints`.
-pub fn read_state(first: &[u8], k: usize, prints: &[u32], sum: u64, s: &[u8]) -> StateLine
-    requires { ⌜ (sum ≤ sumLimit) × (now prints ≡ fingerprintsOf k (now first)) ⌝ }
+// Reads a state's line after `k` others, which start at `first` and sum to `sum`. Their names are kept: the fingerprint of each, and the
+// places in `first` where it starts and ends.
+pub fn read_state(
+    first: &[u8],
+    k: usize,
+    prints: &[u32],
+    starts: &[usize],
+    ends: &[usize],
+    sum: u64,
+    s: &[u8],
+) -> StateLine
+    requires { ⌜ (sum ≤ sumLimit) × NamesKept k (now first) (now prints) (now starts) (now ends) ⌝ }
     ensures { λ r. ⌜ r ≡ stateLineOf (now (first .entry)) k sum (now (s .entry)) ⌝ }
 {
     let end = cut::line_end(s);
@@ -121,7 +152,8 @@ pub fn read_state(first: &[u8], k: usize, prints: &[u32], sum: u64, s: &[u8]) ->
     }
     let population = numbers::value(digits);
     let print = fingerprint(name);
-    let refusal = entry_refusal(first, k, prints, sum, name, print, population);
+    let used = is_used(k, first, prints, starts, ends, name, print);
+    let refusal = entry_refusal(used, sum, population);
     if refusal != 0 {
         return refused(refusal);
     }
@@ -129,6 +161,7 @@ pub fn read_state(first: &[u8], k: usize, prints: &[u32], sum: u64, s: &[u8]) ->
         refusal: 0,
         population,
         print,
+        width: name.len(),
         end,
     }
 }

@@ -59,7 +59,8 @@ fn close(head: Head, total: u64, populations: [u64; STATE_LIMIT], s: &[u8]) -> R
     accepts(head, total, populations)
 }
 
-// The lines of the states, which start at `first`, and what follows them.
+// The lines of the states, which start at `first`, and what follows them. Each name is kept for the lines after it: its fingerprint, and
+// where it starts and ends.
 pub fn read_states(head: Head, first: &[u8]) -> Reading
     requires { ⌜ head .states ≤ stateLimit ⌝ }
     ensures { λ r. ⌜ r ≡ statesOf head (now (first .entry)) ⌝ }
@@ -67,17 +68,22 @@ pub fn read_states(head: Head, first: &[u8]) -> Reading
     let n = head.states;
     let mut populations = [0u64; STATE_LIMIT];
     let mut prints = [0u32; STATE_LIMIT];
+    let mut starts = [0usize; STATE_LIMIT];
+    let mut ends = [0usize; STATE_LIMIT];
     let mut sum: u64 = 0;
     let mut k: usize = 0;
     let mut t = first;
     while k < n {
-        let line = pairs::read_state(first, k, &prints[..k], sum, t);
+        let line = pairs::read_state(first, k, &prints, &starts, &ends, sum, t);
         let refusal = line.refusal;
         if refusal != 0 {
             return refused(refusal, k as u64 + 2);
         }
         populations[k] = line.population;
         prints[k] = line.print;
+        let start = first.len() - t.len();
+        starts[k] = start;
+        ends[k] = start + line.width;
         sum += line.population;
         k += 1;
         let u = cut::rest_from(t, line.end);

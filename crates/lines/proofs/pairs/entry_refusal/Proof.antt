@@ -1,6 +1,5 @@
 -- `entry_refusal` makes the definition's checks in its order.
 -- Assumes nothing.
-use mathlib.Core.Path.{sym, _∙_}
 use borrow.Author.Tests.{le-leb, lt-leb}
 use native.Mathlib.Omega.{arith}
 use Rattle.apportionment.specs.Limits.{sumLimit}
@@ -17,30 +16,20 @@ returns : tie.Need-returns
 unfolding entryRefusal
 returns c = simp (failed (c .before .within .ensures) (c .if1 .taken))
 
-is-used-requires : tie.Need-is-used-requires
-is-used-requires c κs = search needs
-
 returns-2 : tie.Need-returns-2
 unfolding entryRefusal
-returns-2 c =
-    simp (
-      passed (c .before .before .before .within .ensures) (c .before .before .if1 .left),
-      sym (c .before .is-used .ensures) ∙ c .if2 .taken,
-    )
+returns-2 c = simp (passed (c .before .before .within .ensures) (c .before .if1 .left), c .if2 .taken)
 
 add-if3 : tie.Need-add-if3
 add-if3 c =
-    omega (
-      arith,
-      within-limits sumLimit _ (passed (c .before .before .before .within .ensures) (c .before .before .if1 .left)),
-    )
+    omega (arith, within-limits sumLimit _ (passed (c .before .before .within .ensures) (c .before .if1 .left)))
 
 returns-3 : tie.Need-returns-3
 unfolding entryRefusal
 returns-3 c =
     simp (
-      passed (c .before .before .before .before .within .ensures) (c .before .before .before .if1 .left),
-      sym (c .before .before .is-used .ensures) ∙ c .before .if2 .left,
+      passed (c .before .before .before .within .ensures) (c .before .before .if1 .left),
+      c .before .if2 .left,
       lt-leb _ _ (c .if3 .taken),
     )
 
@@ -48,12 +37,12 @@ returns-4 : tie.Need-returns-4
 unfolding entryRefusal
 returns-4 c =
     simp (
-      passed (c .before .before .before .before .within .ensures) (c .before .before .before .if1 .left),
-      sym (c .before .before .is-used .ensures) ∙ c .before .if2 .left,
+      passed (c .before .before .before .within .ensures) (c .before .before .if1 .left),
+      c .before .if2 .left,
       le-leb _ _ (c .if3 .left),
     )
 
 pub entry-refusal-spec : {M : Type 1} → statement M
 entry-refusal-spec =
     tie.close
-    (tie.spec within-requires returns is-used-requires returns-2 add-if3 returns-3 returns-4)
+    (tie.spec within-requires returns returns-2 add-if3 returns-3 returns-4)

@@ -1,46 +1,64 @@
 -- `read_state` cuts the line once and makes the checks over its parts. What the parts and the answers are stands first.
 -- Assumes nothing.
-use mathlib.Core.Path.{_≡_, sym, _∙_}
+use mathlib.Core.Path.{_≡_, sym, ap, _∙_}
+use mathlib.Core.Bool.{true}
+use mathlib.Core.List.{List}
+use Prim.Native.Nat.{ℕ}
 use Rattle.fields.specs.Tests.{failed, passed}
-use Rattle.lines.specs.Lines.{nameAt, numberField, numberAt, isStateLine, state-parts}
-use Rattle.lines.specs.Cut.{pair-formed, entryRefusal, lineRead, line-ill-formed, line-refused, line-accepted}
+use Rattle.fields.specs.Grammar.{fieldOf, fieldsAfter, isName, valueOf}
+use Rattle.lines.specs.Lines.{nameAt, numberField, numberAt, usedIn, isStateLine, state-parts}
+use Rattle.lines.specs.Cut.{pair-formed, entryRefusal, lineRefused, lineRead, line-ill-formed, line-refused, line-accepted}
 use borrow.Author.Needs.{needs}
 use Rattle.lines.proofs.pairs.read_state.Statement.{statement}
 use Rattle.lines.proofs.pairs.read_state.Tie as tie
 
-name-is : (c : tie.After-fields-from) → c .before .field-to .result .now ≡ nameAt (c .before .before .before .before .before .before .before .before .args .s .now)
+-- Where nothing is cut yet.
+abbrev start : tie.After-shared-slice-known5 → tie.Start
+start c = c .before .before .before .before .before
+
+-- The bytes from the line on.
+abbrev bytes : tie.After-fields-from → List ℕ
+bytes c = start (c .before .before .before .before .before) .args .s .now
+
+name-is : (c : tie.After-fields-from) → c .before .field-to .result .now ≡ nameAt (bytes c)
 unfolding nameAt
-name-is c = c .before .field-to .ensures ∙ rw (c .before .before .before .line-to .ensures)
+name-is c = c .before .field-to .ensures ∙ ap fieldOf (c .before .before .before .line-to .ensures)
 
-digits-are : (c : tie.After-fields-from) → c .fields-from .result .now ≡ numberField (c .before .before .before .before .before .before .before .before .args .s .now)
+digits-are : (c : tie.After-fields-from) → c .fields-from .result .now ≡ numberField (bytes c)
 unfolding numberField
-digits-are c = c .fields-from .ensures ∙ rw (c .before .before .before .line-to .ensures)
+digits-are c = c .fields-from .ensures ∙ ap fieldsAfter (c .before .before .before .line-to .ensures)
 
-formed : (c : tie.After-is-pair) → c .is-pair .result ≡ isStateLine (c .before .before .before .before .before .before .before .before .before .before .before .args .s .now)
+formed : (c : tie.After-is-pair) → c .is-pair .result ≡ isStateLine (bytes (c .before .before .before))
 unfolding isStateLine
 formed c =
-    c .is-pair .ensures
-    ∙
-    (rw (
+    let parts = c .before .before .before in
+    cc (
+      c .is-pair .ensures,
       c .before .before .is-ended .ensures,
       c .before .is-name .ensures,
-      name-is (c .before .before .before),
-      digits-are (c .before .before .before),
-    ))
-    ∙ pair-formed _ _
+      name-is parts,
+      digits-are parts,
+      pair-formed (isName (nameAt (bytes parts))) (bytes parts),
+    )
 
-population-is : (c : tie.After-value) → c .value .result ≡ numberAt (c .before .before .before .before .before .before .before .before .before .before .before .before .before .args .s .now)
+-- What was cut, from where the population is known.
+abbrev cut : tie.After-value → tie.After-fields-from
+cut c = c .before .before .before .before .before
+
+population-is : (c : tie.After-value) → c .value .result ≡ numberAt (bytes (cut c))
 unfolding numberAt
-population-is c = c .value .ensures ∙ rw (digits-are (c .before .before .before .before .before))
+population-is c = c .value .ensures ∙ ap valueOf (digits-are (cut c))
 
-refusal-is :
-    (c : tie.After-entry-refusal)
-    → let a =
-    c .before .before .before .before .before .before .before .before .before .before .before .before .before .before .before .args
-    in c .entry-refusal .result ≡ entryRefusal (a .first .now) (a .k) (a .sum) (nameAt (a .s .now)) (numberAt (a .s .now))
+-- The refusal that the definition gives.
+abbrev refusal-at : tie.After-value → ℕ
+refusal-at c =
+    let a = start (cut c .before .before .before .before .before) .args in
+    entryRefusal (usedIn (a .k) (a .first .now) (nameAt (a .s .now))) (a .sum) (numberAt (a .s .now))
+
+refusal-is : (c : tie.After-entry-refusal) → c .entry-refusal .result ≡ refusal-at (c .before .before .before)
 refusal-is c =
-    c .entry-refusal .ensures
-    ∙ rw (name-is (c .before .before .before .before .before .before .before), population-is (c .before .before))
+    let value = c .before .before .before in
+    cc (c .entry-refusal .ensures, c .before .is-used .ensures, name-is (cut value), population-is value)
 
 line-end-requires : tie.Need-line-end-requires
 line-end-requires c κs = search needs
@@ -80,36 +98,38 @@ value-requires c κs =
 fingerprint-requires : tie.Need-fingerprint-requires
 fingerprint-requires c κs = search needs
 
+is-used-requires : tie.Need-is-used-requires
+is-used-requires c κs =
+    (start (cut (c .before) .before .before .before .before .before) .pre .1, c .fingerprint .ensures)
+
 entry-refusal-requires : tie.Need-entry-refusal-requires
-entry-refusal-requires c κs = search needs
+entry-refusal-requires c κs = start (cut (c .before .before) .before .before .before .before .before) .pre .0
 
 refused-requires-2 : tie.Need-refused-requires-2
 refused-requires-2 c κs = search needs
 
+-- The line is well-formed where the population is known.
+formed-there : (c : tie.After-value) → isStateLine (bytes (cut c)) ≡ true
+formed-there c = passed (formed (c .before .before)) (c .before .if1 .left)
+
 returns-2 : tie.Need-returns-2
 returns-2 c =
     c .refused2 .ensures
-    ∙ rw (refusal-is (c .before .before))
-    (sym
-    (line-refused _ _ _ _
-    (passed
-    (formed (c .before .before .before .before .before .before))
-    (c .before .before .before .before .before .if1 .left))
-    (λ good. c .before .if2 .taken (refusal-is (c .before .before) ∙ good))))
+    ∙ ap lineRefused (refusal-is (c .before .before))
+    ∙ sym
+    (line-refused _ _ _ _ (formed-there (c .before .before .before .before .before))
+    (λ good. c .before .if2 .taken (refusal-is (c .before .before) ∙ good)))
 
 returns-3 : tie.Need-returns-3
 unfolding lineRead
 returns-3 c =
-    rw (
-      population-is (c .before .before .before),
-      c .before .before .fingerprint .ensures,
-      name-is (c .before .before .before .before .before .before .before .before),
-      c .before .before .before .before .before .before .before .before .before .before .before .before .line-end .ensures,
+    let value = c .before .before .before .before in
+    cc (
+      population-is value,
+      c .before .before .before .fingerprint .ensures,
+      name-is (cut value),
+      line-accepted _ _ _ _ (formed-there value) (sym (refusal-is (c .before)) ∙ c .if2 .left),
     )
-    (sym
-    (line-accepted _ _ _ _
-    (passed (formed (c .before .before .before .before .before)) (c .before .before .before .before .if1 .left))
-    (sym (refusal-is (c .before)) ∙ c .if2 .left)))
 
 pub read-state-spec : {M : Type 1} → statement M
 read-state-spec =
@@ -127,6 +147,7 @@ read-state-spec =
     returns
     value-requires
     fingerprint-requires
+    is-used-requires
     entry-refusal-requires
     refused-requires-2
     returns-2

@@ -1,66 +1,86 @@
 -- `read_states` goes down the states' lines: reading all of them is reading those left, with the sum and the populations so far.
--- Beside it stand the fingerprints of the names so far.
+-- Beside it stand the names so far: the fingerprint of each, and where it starts and ends.
 -- Assumes nothing.
 use mathlib.Core.Path.{_≡_, sym, ap, _∙_}
-use Prim.Native.Nat.{_+_, _-_, _≤_}
+use mathlib.Core.List.{List}
+use Prim.Native.Nat.{ℕ, _+_, _-_, _≤_}
 use native.Mathlib.Nat.{sub-zero}
-use lib.Seq.{length-take-le}
-use Rattle.apportionment.specs.Limits.{sumLimit}
+use lib.ListN.{length}
+use Rattle.apportionment.specs.Limits.{stateLimit, sumLimit}
 use Rattle.apportionment.specs.Refusals.{accepted}
-use Rattle.lines.specs.Lines.{numberAt, stateRefusal, StateSound, state-sound}
+use Rattle.lines.specs.Lines.{nameAt, numberAt, stateRefusal, StateSound, state-sound}
 use Rattle.lines.specs.Cut.{lineRead, line-refusal, line-read}
 use Rattle.register.specs.Register.{refused, noPopulations, statesFrom, statesOf, states-none, states-refused, states-passed}
-use Rattle.register.specs.Fingerprints.{Kept, kept-none, kept-more}
+use Rattle.register.specs.Kept.{Kept, kept-none, kept-end, next-fits, kept-more}
 use borrow.Author.Needs.{needs}
 use native.Mathlib.Omega.{arith}
 use Rattle.register.proofs.states.read_states.Statement.{statement}
 use Rattle.register.proofs.states.read_states.Tie as tie
 
 abbrev Inv-loop : tie.InvT-loop
-Inv-loop head first n populations₀ prints₀ sum₀ k₀ t₀ populations prints sum k t =
-    (k ≤ head .states)
+Inv-loop head first n populations₀ prints₀ starts₀ ends₀ sum₀ k₀ t₀ populations prints starts ends sum k t =
+    (head .states ≤ stateLimit)
+    × (k ≤ head .states)
     × (sum ≤ sumLimit)
-    × Kept k first t prints
+    × Kept k first t prints starts ends
     × (statesOf head first ≡ statesFrom head first (head .states - k) k sum populations t)
 
 abbrev μ-loop : tie.MeasureT-loop
-μ-loop head first n populations₀ prints₀ sum₀ k₀ t₀ populations prints sum k t = head .states - k
+μ-loop head first n populations₀ prints₀ starts₀ ends₀ sum₀ k₀ t₀ populations prints starts ends sum k t = head .states - k
+
+-- Where the turn of the loop starts, and the lines: all of them and those that are left.
+abbrev turn : tie.After-read-state Inv-loop μ-loop → tie.At-loop Inv-loop μ-loop
+turn c = c .before .before .before .before .before
+
+abbrev all-lines : tie.After-read-state Inv-loop μ-loop → List ℕ
+all-lines c = turn c .before .before .args .first .now
+
+abbrev left : tie.After-read-state Inv-loop μ-loop → List ℕ
+left c = turn c .loop .t .now
 
 refusal-is :
     (c : tie.After-read-state Inv-loop μ-loop)
-    → let l = c .before .before .before .loop in c .read-state .result .refusal ≡ stateRefusal
-    (c .before .before .before .before .before .args .first .now) (l .k) (l .sum) (l .t .now)
+    → c .read-state .result .refusal ≡ stateRefusal (all-lines c) (turn c .loop .k) (turn c .loop .sum) (left c)
 refusal-is c = ap (λ r. r .refusal) (c .read-state .ensures) ∙ line-refusal _ _ _ _
 
-good : (c : tie.Else1 Inv-loop μ-loop) → let l = c .before .before .before .before .loop in stateRefusal (c .before .before .before .before .before .before .args .first .now) (l .k) (l .sum) (l .t .now) ≡ accepted
+good :
+    (c : tie.Else1 Inv-loop μ-loop)
+    → let l = turn (c .before) .loop in stateRefusal (all-lines (c .before)) (l .k) (l .sum) (left (c .before)) ≡ accepted
 good c = sym (refusal-is (c .before)) ∙ c .if1 .left
 
-line-is : (c : tie.Else1 Inv-loop μ-loop) → c .before .read-state .result ≡ lineRead (c .before .before .before .before .loop .t .now)
+line-is : (c : tie.Else1 Inv-loop μ-loop) → c .before .read-state .result ≡ lineRead (left (c .before))
 line-is c = c .before .read-state .ensures ∙ line-read _ _ _ _ (good c)
 
-population-is : (c : tie.Else1 Inv-loop μ-loop) → c .before .read-state .result .population ≡ numberAt (c .before .before .before .before .loop .t .now)
+population-is : (c : tie.Else1 Inv-loop μ-loop) → c .before .read-state .result .population ≡ numberAt (left (c .before))
 unfolding lineRead
 population-is c = ap (λ r. r .population) (line-is c)
 
+width-is : (c : tie.Else1 Inv-loop μ-loop) → c .before .read-state .result .width ≡ length (nameAt (left (c .before)))
+unfolding lineRead
+width-is c = ap (λ r. r .width) (line-is c)
+
 line-sound :
     (c : tie.Else1 Inv-loop μ-loop)
-    → let l = c .before .before .before .before .loop in StateSound
-    (c .before .before .before .before .before .before .args .first .now) (l .k) (l .sum) (l .t .now)
+    → let l = turn (c .before) .loop in StateSound (all-lines (c .before)) (l .k) (l .sum) (left (c .before))
 line-sound c = state-sound _ _ _ _ (good c)
 
 loop-holds : tie.Need-loop-holds Inv-loop μ-loop
 unfolding statesOf noPopulations
-loop-holds c = (omega arith, omega arith, kept-none _, rw sub-zero)
-
-array-share-prefix-prints : tie.Need-array-share-prefix-prints Inv-loop μ-loop
-array-share-prefix-prints c = omega (arith, c .before .before .before .pre, c .before .loop .inv .2 .room)
+loop-holds c = (c .before .pre, omega arith, omega arith, kept-none _, rw sub-zero)
 
 slice-aggregate-read-state : tie.Need-slice-aggregate-read-state Inv-loop μ-loop
-slice-aggregate-read-state c =
-    sym (length-take-le _ _ (omega (arith, c .before .before .before .before .pre, c .before .before .loop .inv .2 .room)))
+slice-aggregate-read-state c = sym (c .before .before .loop .inv .3 .names .room .0)
+
+slice-aggregate-read-state-2 : tie.Need-slice-aggregate-read-state-2 Inv-loop μ-loop
+slice-aggregate-read-state-2 c = sym (c .before .before .before .loop .inv .3 .names .room .1)
+
+slice-aggregate-read-state-3 : tie.Need-slice-aggregate-read-state-3 Inv-loop μ-loop
+slice-aggregate-read-state-3 c = sym (c .before .before .before .before .loop .inv .3 .names .room .2)
 
 read-state-requires : tie.Need-read-state-requires Inv-loop μ-loop
-read-state-requires c κs = (c .before .before .loop .inv .1, c .before .before .loop .inv .2 .held)
+read-state-requires c κs =
+    let inv = c .before .before .before .before .loop .inv in
+    (inv .2, inv .3 .names)
 
 add-refused : tie.Need-add-refused Inv-loop μ-loop
 add-refused c = omega arith
@@ -70,66 +90,78 @@ refused-requires c κs = search needs
 
 returns : tie.Need-returns Inv-loop μ-loop
 returns c =
+    let read = c .before .before in
     c .refused .ensures
+    ∙ ap (λ r. refused r (turn read .loop .k + 2)) (refusal-is read)
     ∙ sym
-    (c .before .before .before .before .before .loop .inv .3
-    ∙ states-refused _ _ _ _ _ _ _ (omega arith) (λ none. c .before .if1 .taken (refusal-is (c .before .before) ∙ none))
-    ∙ rw (refusal-is (c .before .before)))
+    (turn read .loop .inv .4
+    ∙ states-refused _ _ _ _ _ _ _ (omega arith) (λ none. c .before .if1 .taken (refusal-is read ∙ none)))
 
 mul-populations : tie.Need-mul-populations Inv-loop μ-loop
-mul-populations c =
-    let start = c .before .before .before .before .before .before in
-    omega (arith, start .pre)
+mul-populations c = omega (arith, turn (c .before) .loop .inv .0)
 
 array-write-populations : tie.Need-array-write-populations Inv-loop μ-loop
-array-write-populations c =
-    let start = c .before .before .before .before .before .before in
-    omega (arith, start .pre)
+array-write-populations c = omega (arith, turn (c .before) .loop .inv .0)
 
 mul-prints : tie.Need-mul-prints Inv-loop μ-loop
-mul-prints c =
-    let start = c .before .before .before .before .before .before in
-    omega (arith, start .pre)
+mul-prints c = omega (arith, turn (c .before) .loop .inv .0)
 
 array-write-prints : tie.Need-array-write-prints Inv-loop μ-loop
-array-write-prints c =
-    let start = c .before .before .before .before .before .before in
-    omega (arith, start .pre)
+array-write-prints c = omega (arith, turn (c .before) .loop .inv .0)
+
+sub-start : tie.Need-sub-start Inv-loop μ-loop
+sub-start c = omega (arith, kept-end (turn (c .before) .loop .inv .3) .shorter)
+
+mul-starts : tie.Need-mul-starts Inv-loop μ-loop
+mul-starts c = omega (arith, turn (c .before) .loop .inv .0)
+
+array-write-starts : tie.Need-array-write-starts Inv-loop μ-loop
+array-write-starts c = omega (arith, turn (c .before) .loop .inv .0)
+
+add-ends : tie.Need-add-ends Inv-loop μ-loop
+add-ends c =
+    let read = c .before .before in
+    omega (arith, turn read .before .before .good, width-is (c .before), next-fits _ _ (kept-end (turn read .loop .inv .3)))
+
+mul-ends : tie.Need-mul-ends Inv-loop μ-loop
+mul-ends c = omega (arith, turn (c .before .before) .loop .inv .0)
+
+array-write-ends : tie.Need-array-write-ends Inv-loop μ-loop
+array-write-ends c = omega (arith, turn (c .before .before) .loop .inv .0)
 
 add-sum : tie.Need-add-sum Inv-loop μ-loop
-add-sum c = omega (arith, population-is (c .before), line-sound (c .before) .fits)
+add-sum c = omega (arith, population-is (c .before .before), line-sound (c .before .before) .fits)
 
 add-k : tie.Need-add-k Inv-loop μ-loop
-add-k c =
-    let start = c .before .before .before .before .before .before .before in
-    omega (arith, start .pre)
+add-k c = omega (arith, turn (c .before .before .before) .loop .inv .0)
 
 rest-from-requires : tie.Need-rest-from-requires Inv-loop μ-loop
 unfolding lineRead
-rest-from-requires c κs = ap (λ r. r .end) (line-is (c .before))
+rest-from-requires c κs = ap (λ r. r .end) (line-is (c .before .before))
 
 loop-less : tie.Need-loop-less Inv-loop μ-loop
 loop-less c = omega arith
 
 loop-again : tie.Need-loop-again Inv-loop μ-loop
 unfolding lineRead
-loop-again c = (
-  omega arith,
-  omega (arith, population-is (c .before .before), line-sound (c .before .before) .fits),
-  kept-more _ _ _ _ _ _ (c .before .before .before .before .before .before .loop .inv .2) (omega (arith, c .before .before .before .before .before .before .before .before .pre))
-      (c .rest-from .ensures) (ap (λ r. r .print) (line-is (c .before .before))),
-  c .before .before .before .before .before .before .loop .inv .3
-      ∙ states-passed _ _ _
-      (c .before .before .before .before .before .before .before .before .args .head .states -
-      (c .before .before .before .before .before .before .loop .k + 1)) _ _ _ _ (omega arith) (good (c .before .before))
-      ∙ rw (population-is (c .before .before), c .rest-from .ensures),
-)
+loop-again c =
+    let line = c .before .before .before in
+    let at = turn (line .before) in (
+      at .loop .inv .0,
+      omega arith,
+      omega (arith, population-is line, line-sound line .fits),
+      kept-more _ _ _ _ _ _ _ _ _ (at .loop .inv .3) (omega (arith, at .loop .inv .0)) (c .rest-from .ensures)
+          (ap (λ r. r .print) (line-is line)) (width-is line),
+      at .loop .inv .4
+          ∙ states-passed _ _ _ (at .before .before .args .head .states - (at .loop .k + 1)) _ _ _ _ (omega arith) (good line)
+          ∙ cc (population-is line, c .rest-from .ensures),
+    )
 
 close-requires : tie.Need-close-requires Inv-loop μ-loop
-close-requires c κs = (c .before .before .before .pre)
+close-requires c κs = c .before .before .before .pre
 
 returns-2 : tie.Need-returns-2 Inv-loop μ-loop
-returns-2 c = c .close .ensures ∙ sym (c .before .before .loop .inv .3 ∙ states-none _ _ _ _ _ _ _ (omega arith))
+returns-2 c = c .close .ensures ∙ sym (c .before .before .loop .inv .4 ∙ states-none _ _ _ _ _ _ _ (omega arith))
 
 pub read-states-spec : {M : Type 1} → statement M
 read-states-spec =
@@ -138,8 +170,9 @@ read-states-spec =
     Inv-loop
     μ-loop
     loop-holds
-    array-share-prefix-prints
     slice-aggregate-read-state
+    slice-aggregate-read-state-2
+    slice-aggregate-read-state-3
     read-state-requires
     add-refused
     refused-requires
@@ -148,6 +181,12 @@ read-states-spec =
     array-write-populations
     mul-prints
     array-write-prints
+    sub-start
+    mul-starts
+    array-write-starts
+    add-ends
+    mul-ends
+    array-write-ends
     add-sum
     add-k
     rest-from-requires

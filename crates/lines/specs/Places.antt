@@ -1,0 +1,162 @@
+-- Where names stand among the bytes of a register. Reading keeps for each name its fingerprint and the places where it starts and ends,
+-- so that the name of a later line is compared byte by byte only where a name of its own fingerprint stands, and no line is cut again.
+-- What reading gives does not speak of them: a reader who only wants the grammar need not read this file.
+-- Assumes nothing.
+use mathlib.Core.Path.{_≡_, refl, sym, ap, _∙_}
+use mathlib.Core.Bool.{Bool, true, false, cond}
+use mathlib.Core.List.{List, [], _∷_}
+use Prim.Native.Nat.{ℕ, zero, suc, zero-le, suc-le-suc, _+_, _-_, _<_, _≤_}
+use native.Mathlib.Nat.{le-refl, le-trans}
+use native.Mathlib.Omega.{arith}
+use borrow.Author.Tests.{leb-true, leb-false}
+use lib.Dec.{leb, eqb}
+use lib.ListN.{length, getD, take, drop, length-drop, drop-of-length-le}
+use lib.Seq.{take-take, drop-drop, length-take-le, getD-take}
+use Rattle.apportionment.specs.Limits.{stateLimit}
+use Rattle.apportionment.specs.Lists.{sameList, same-list-equal}
+use Rattle.fields.specs.Parts.{placeOf, before, after}
+use Rattle.fields.specs.Grammar.{lineFeed, comma, restOf, lineOf, lastByte, carriageReturn, withoutReturn, fieldOf}
+use Rattle.lines.specs.Lines.{nameAt, usedIn}
+use Rattle.lines.specs.Fingerprints.{fingerprintOf, holds, holds-not}
+
+-- ---- a name is the front of its line
+
+-- A list is the first of another.
+pub record FrontOf (s t : List ℕ) : Type 0 where
+  pub shorter : length t ≤ length s
+  pub stands : t ≡ take (length t) s
+
+take-is-front : (k : ℕ) (s : List ℕ) → FrontOf s (take k s)
+take-is-front zero s = record { shorter = zero-le; stands = refl }
+take-is-front (suc k) [] = record { shorter = zero-le; stands = refl }
+take-is-front (suc k) (x ∷ s) =
+    let rest = take-is-front k s in
+    record { shorter = suc-le-suc (rest .shorter); stands = ap (λ (r : List ℕ). x ∷ r) (rest .stands) }
+
+all-is-front : (s : List ℕ) → FrontOf s s
+all-is-front [] = record { shorter = zero-le; stands = refl }
+all-is-front (x ∷ s) = record { shorter = le-refl _; stands = ap (λ (r : List ℕ). x ∷ r) (all-is-front s .stands) }
+
+front-of-front : {s t u : List ℕ} → FrontOf s t → FrontOf t u → FrontOf s u
+front-of-front {s} {t} {u} e f =
+    record {
+      shorter = le-trans (f .shorter) (e .shorter);
+      stands = f .stands ∙ ap (take (length u)) (e .stands) ∙ take-take (length u) (length t) s (f .shorter);
+    }
+
+without-return-is-front : (s : List ℕ) → FrontOf s (withoutReturn s)
+unfolding withoutReturn
+without-return-is-front s = by-test (eqb (lastByte s) carriageReturn)
+  where
+    by-test : (t : Bool) → FrontOf s (cond t (take (length s - 1) s) s)
+    by-test true = take-is-front (length s - 1) s
+    by-test false = all-is-front s
+
+pub name-is-front : (s : List ℕ) → FrontOf s (nameAt s)
+unfolding nameAt fieldOf lineOf before
+name-is-front s =
+    let line : FrontOf s (lineOf s) =
+    front-of-front (take-is-front (placeOf lineFeed s) s) (without-return-is-front (before lineFeed s)) in
+    front-of-front line (take-is-front (placeOf comma (lineOf s)) (lineOf s))
+
+-- ---- what is left is the end of what there was
+
+-- A list is what is left of another after as many as it lacks.
+pub record EndOf (s t : List ℕ) : Type 0 where
+  pub shorter : length t ≤ length s
+  pub stands : t ≡ drop (length s - length t) s
+
+pub drop-is-end : (k : ℕ) (s : List ℕ) → EndOf s (drop k s)
+drop-is-end k s = record { shorter = rw (length-drop k s) (omega arith); stands = rw (length-drop k s) (by-test (leb k (length s)) refl) }
+  where
+    by-test : (t : Bool) → leb k (length s) ≡ t → drop k s ≡ drop (length s - (length s - k)) s
+    by-test true few =
+        let inside : k ≤ length s = leb-true k (length s) few in
+        let same : k ≡ length s - (length s - k) = omega arith in
+        ap (λ (i : ℕ). drop i s) same
+    by-test false many =
+        let past : length s ≤ k = omega (arith, leb-false k (length s) many) in
+        let all : length s ≤ length s - (length s - k) = omega arith in
+        drop-of-length-le s past ∙ sym (drop-of-length-le s all)
+
+pub end-of-end : {s t u : List ℕ} → EndOf s t → EndOf t u → EndOf s u
+end-of-end {s} {t} {u} e f =
+    let both : (length s - length t) + (length t - length u) ≡ length s - length u = omega (arith, e .shorter, f .shorter) in
+    record {
+      shorter = le-trans (f .shorter) (e .shorter);
+      stands =
+          f .stands
+          ∙ ap (drop (length t - length u)) (e .stands)
+          ∙ drop-drop (length t - length u) (length s - length t) s
+          ∙ ap (λ (i : ℕ). drop i s) both;
+    }
+
+pub rest-is-end : (s : List ℕ) → EndOf s (restOf s)
+unfolding restOf after
+rest-is-end s = drop-is-end (placeOf lineFeed s + 1) s
+
+-- ---- the names kept
+
+-- The name on line i from here on, counted from 0.
+unfoldable pub nameOn : (i : ℕ) → List ℕ → List ℕ
+nameOn zero s = nameAt s
+nameOn (suc i) s = nameOn i (restOf s)
+
+-- The bytes from place a to place e.
+unfoldable pub partOf : List ℕ → (a e : ℕ) → List ℕ
+partOf s a e = take (e - a) (drop a s)
+
+-- A name stands among the bytes from place a to place e, and has this fingerprint.
+pub record Stands (s name : List ℕ) (print a e : ℕ) : Type 0 where
+  pub ordered : a ≤ e
+  pub inside : e ≤ length s
+  pub there : partOf s a e ≡ name
+  pub printed : print ≡ fingerprintOf name
+
+-- What stands there is the name that stands there.
+pub stands-itself : {s name : List ℕ} {print a e : ℕ} → Stands s name print a e → Stands s (partOf s a e) print a e
+stands-itself so = rw (so .there) so
+
+-- The first k places of three lists hold the fingerprints, the starts and the ends of the names on the k lines from `first` on.
+pub record NamesKept (k : ℕ) (first prints starts ends : List ℕ) : Type 0 where
+  pub few : k ≤ stateLimit
+  pub room : (length prints ≡ stateLimit) × (length starts ≡ stateLimit) × (length ends ≡ stateLimit)
+  pub each : (i : ℕ) → i < k → Stands first (nameOn i first) (getD prints i 0) (getD starts i 0) (getD ends i 0)
+
+-- Names of different fingerprints differ.
+pub other-fingerprint : (xs ys : List ℕ) → (fingerprintOf xs ≡ fingerprintOf ys → ⊥) → sameList xs ys ≡ false
+other-fingerprint xs ys differ = by-test (sameList xs ys) refl
+  where
+    by-test : (t : Bool) → sameList xs ys ≡ t → t ≡ false
+    by-test true same = absurd (differ (rw (same-list-equal xs ys same)))
+    by-test false same = refl
+
+-- ---- a name used before, by the names of the lines one by one
+
+pub used-on : (k : ℕ) (s name : List ℕ) (i : ℕ) → i < k → sameList (nameOn i s) name ≡ true → usedIn k s name ≡ true
+unfolding usedIn nameOn
+used-on zero s name i below same = absurd (omega arith)
+used-on (suc k) s name zero below same = rw same
+used-on (suc k) s name (suc i) below same = rw (used-on k (restOf s) name i (omega arith) same) (either (sameList (nameAt s) name))
+  where
+    either : (t : Bool) → cond t true true ≡ true
+    either true = refl
+    either false = refl
+
+pub used-on-none : (k : ℕ) (s name : List ℕ) → ((i : ℕ) → i < k → sameList (nameOn i s) name ≡ false)
+    → usedIn k s name ≡ false
+unfolding usedIn nameOn
+used-on-none zero s name none = refl
+used-on-none (suc k) s name none =
+    rw (none 0 (omega arith)) (used-on-none k (restOf s) name (λ i below. none (suc i) (omega arith)))
+
+-- A name whose fingerprint is not among those kept is on none of the lines.
+pub unused-without-fingerprint : {k : ℕ} {first prints starts ends : List ℕ} {print : ℕ} (name : List ℕ)
+    → NamesKept k first prints starts ends → print ≡ fingerprintOf name → holds print (take k prints) ≡ false
+    → usedIn k first name ≡ false
+unused-without-fingerprint {k} {first} {prints} {starts} {ends} {print} name kept its none =
+    let all : length (take k prints) ≡ k = length-take-le k prints (omega (arith, kept .few, kept .room .0)) in
+    used-on-none k first name
+    (λ i below. other-fingerprint (nameOn i first) name
+    (λ equal. holds-not print (take k prints) none i (omega arith)
+    (getD-take k prints i 0 below ∙ kept .each i below .printed ∙ equal ∙ sym its)))
