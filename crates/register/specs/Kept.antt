@@ -1,5 +1,5 @@
 -- The names read so far, kept in three lists as the lines are read: the fingerprint of each, and where it starts and ends.
--- Cited by the proof of reading alone.
+-- Cited by the proof of reading and, for where a name stands, by the C interface's.
 -- Assumes nothing.
 use mathlib.Core.Path.{_≡_, refl, sym, ap, _∙_}
 use mathlib.Core.List.{List}
@@ -18,7 +18,7 @@ use Rattle.register.specs.Names.{linesAfter, lines-next}
 
 -- ---- what is left after k lines
 
-lines-are-end : (k : ℕ) (s : List ℕ) → EndOf s (linesAfter k s)
+pub lines-are-end : (k : ℕ) (s : List ℕ) → EndOf s (linesAfter k s)
 unfolding linesAfter
 lines-are-end zero s = drop-is-end 0 s
 lines-are-end (suc k) s = end-of-end (rest-is-end s) (lines-are-end k (restOf s))
