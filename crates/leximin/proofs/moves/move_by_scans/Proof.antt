@@ -1,4 +1,5 @@
--- `leximin::moves::move_by_scans` meets its contract: after `done` turns the seats are those after so many moves, and one turn more is one move more.
+-- `leximin::moves::move_by_scans` meets its contract: after `done` turns the seats are those after so many moves, and one turn more is
+-- one move more.
 -- Assumes nothing.
 use borrow.Author.Needs.{needs}
 use mathlib.Core.Path.{_≡_, sym, _∙_}

@@ -1,4 +1,5 @@
--- `leximin::moves::move_by_tournament` meets its contract: after `done` turns the seats are those after so many moves, and the tournament is right for them; so its root is the state that the theory moves.
+-- `leximin::moves::move_by_tournament` meets its contract: after `done` turns the seats are those after so many moves, and the tournament
+-- is right for them; so its root is the state that the theory moves.
 -- Assumes nothing.
 use borrow.Author.Needs.{needs}
 use mathlib.Core.Path.{sym, _∙_}

@@ -1,4 +1,5 @@
--- `leximin::moves::move_times` meets its contract: both roads make the moves; the tournament has two places for each state, which the array has room for.
+-- `leximin::moves::move_times` meets its contract: both roads make the moves; the tournament has two places for each state, which the
+-- array has room for.
 -- Assumes nothing.
 use mathlib.Core.Path.{sym}
 use native.Mathlib.Omega.{arith}

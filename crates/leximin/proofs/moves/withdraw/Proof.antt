@@ -1,4 +1,5 @@
--- `leximin::moves::withdraw` meets its contract: the scan gives a state of the list, which has a seat, and one seat less there is the theory's move.
+-- `leximin::moves::withdraw` meets its contract: the scan gives a state of the list, which has a seat, and one seat less there is the
+-- theory's move.
 -- Assumes nothing.
 use native.Mathlib.Omega.{arith}
 use borrow.Author.Needs.{scaled-fits}

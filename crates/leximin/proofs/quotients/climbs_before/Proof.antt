@@ -1,4 +1,5 @@
--- `leximin::quotients::climbs_before` meets its contract: the tests that were made pick the case of the order by quotients, which is the order of claims at or above the start.
+-- `leximin::quotients::climbs_before` meets its contract: the tests that were made pick the case of the order by quotients, which is the
+-- order of claims at or above the start.
 -- Assumes nothing.
 use mathlib.Core.Path.{sym, _∙_}
 use Rattle.claims.specs.SizeQuotients.{climbsBefore}

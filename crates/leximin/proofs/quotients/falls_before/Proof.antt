@@ -1,4 +1,5 @@
--- `leximin::quotients::falls_before` meets its contract: the products fit, and the tests that were made pick the case of the order by quotients, which is the order of claims below the start.
+-- `leximin::quotients::falls_before` meets its contract: the products fit, and the tests that were made pick the case of the order by
+-- quotients, which is the order of claims below the start.
 -- Assumes nothing.
 use mathlib.Core.Path.{_∙_}
 use native.Mathlib.Omega.{arith}

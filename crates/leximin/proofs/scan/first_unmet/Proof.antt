@@ -1,4 +1,5 @@
--- `leximin::scan::first_unmet` meets its contract: the candidate is the theory's first place of those looked at, with its claim; one place more is one step of that definition.
+-- `leximin::scan::first_unmet` meets its contract: the candidate is the theory's first place of those looked at, with its claim; one
+-- place more is one step of that definition.
 -- Assumes nothing.
 use native.Mathlib.Nat.{le-antisymm}
 use mathlib.Core.Path.{refl}

@@ -1,4 +1,5 @@
--- `leximin::scan::last_met` meets its contract: the candidate is the theory's first place, in the order of giving up, of those looked at; one place more is one step of that definition.
+-- `leximin::scan::last_met` meets its contract: the candidate is the theory's first place, in the order of giving up, of those looked at;
+-- one place more is one step of that definition.
 -- Assumes nothing.
 use borrow.Author.Needs.{needs}
 use Prim.Native.Nat.{_<_, _≤_, _-_}

@@ -1,4 +1,5 @@
--- `leximin::settle::comes_before` meets its contract: the two tests that were made pick the case of the definition; with equal claims the states' places decide.
+-- `leximin::settle::comes_before` meets its contract: the two tests that were made pick the case of the definition; with equal claims the
+-- states' places decide.
 -- Assumes nothing.
 use mathlib.Core.Path.{sym, _∙_}
 use borrow.Author.Needs.{needs}

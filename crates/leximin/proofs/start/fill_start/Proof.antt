@@ -1,4 +1,5 @@
--- `leximin::start::fill_start` meets its contract: every place passed holds its state's nearest seats, and a list that does so at every place is the start.
+-- `leximin::start::fill_start` meets its contract: every place passed holds its state's nearest seats, and a list that does so at every
+-- place is the start.
 -- Assumes nothing.
 use Rattle.leximin.specs.Sizes.{filled-next}
 use borrow.Author.Needs.{needs}

@@ -1,4 +1,5 @@
--- `leximin::start::nearest_seats` meets its contract: each return is a case of the definition, and sizes without their common factor are ordered as the exact ones.
+-- `leximin::start::nearest_seats` meets its contract: each return is a case of the definition, and sizes without their common factor are
+-- ordered as the exact ones.
 -- Assumes nothing.
 use mathlib.Core.Path.{sym, _∙_}
 use native.Mathlib.Omega.{arith}

@@ -1,4 +1,5 @@
--- `leximin::tournament::build` meets its contract: every place past `k` is right, so what is decided between at `k` is right too, and deciding it makes `k` right.
+-- `leximin::tournament::build` meets its contract: every place past `k` is right, so what is decided between at `k` is right too, and
+-- deciding it makes `k` right.
 -- Assumes nothing.
 use borrow.Author.Needs.{needs}
 use mathlib.Core.Path.{_≡_, sym, _∙_}

@@ -1,4 +1,5 @@
--- `leximin::tournament::gives_before` meets its contract: the tests that were made pick the case of the definition; two states with a seat to spare are at or below their starts, so their last claims can be compared by quotients.
+-- `leximin::tournament::gives_before` meets its contract: the tests that were made pick the case of the definition; two states with a
+-- seat to spare are at or below their starts, so their last claims can be compared by quotients.
 -- Assumes nothing.
 use borrow.Author.Tests.{lt-ltb, le-ltb}
 use Rattle.claims.specs.Order.{givesUpBefore}

@@ -1,4 +1,5 @@
--- `leximin::tournament::replay` meets its contract: every place off the way up from `k` is right, and deciding `k` leaves the way up from its half.
+-- `leximin::tournament::replay` meets its contract: every place off the way up from `k` is right, and deciding `k` leaves the way up from
+-- its half.
 -- Assumes nothing.
 use borrow.Author.Needs.{needs}
 use mathlib.Core.Path.{_≡_, sym, _∙_}

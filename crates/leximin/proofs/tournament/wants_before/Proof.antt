@@ -1,4 +1,5 @@
--- `leximin::tournament::wants_before` meets its contract: both states are at or above their starts, so their next claims can be compared by quotients.
+-- `leximin::tournament::wants_before` meets its contract: both states are at or above their starts, so their next claims can be compared
+-- by quotients.
 -- Assumes nothing.
 use Rattle.claims.specs.Order.{wantsBefore}
 use Rattle.claims.specs.SizeClaims.{sizeTest}
