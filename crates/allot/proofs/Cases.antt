@@ -14,7 +14,7 @@ use Rattle.apportionment.specs.Remainders.{remainderSeats}
 use Rattle.apportionment.specs.declared.Method.{Method}
 use Rattle.apportionment.specs.declared.Method.the-variants.{Leximin, Adams, Dean, Hill, Webster, Jefferson, Remainders}
 use Rattle.apportionment.proofs.Method.{the-type}
-use Rattle.allot.specs.Allot.{Filled}
+use Rattle.allot.specs.inner.Allot.{Filled}
 
 pub signposts-left : (m : Method) (ps : List ℕ) (H : ℕ) {xs : List ℕ} → OneOf (1 ∷ 2 ∷ 3 ∷ 4 ∷ 5 ∷ 6 ∷ []) (tagOf the-type m)
     → OneOf (0 ∷ 1 ∷ 2 ∷ 3 ∷ 4 ∷ 5 ∷ []) (tagOf the-type m) → xs ≡ divisorSeats m ps H → Filled m ps H xs 0

@@ -1,2 +1,3 @@
 -- What allotting hands back.
 pub mod Allot
+pub mod inner

@@ -10,8 +10,9 @@ use remainders::fill_remainders;
 ghost use mathlib.Core.Path.{_≡_};
 ghost use lib.ListN.{length};
 ghost use Rattle.apportionment.specs.Lists.{sum};
-ghost use Rattle.problem.specs.Passed.{AllotPassed};
-ghost use Rattle.allot.specs.Allot.{Filled, AllotmentIs};
+ghost use Rattle.problem.specs.inner.Passed.{AllotPassed};
+ghost use Rattle.allot.specs.inner.Allot.{Filled};
+ghost use Rattle.allot.specs.Allot.{AllotmentIs};
 
 // The number of the refusal, or 0, and the steps from the start to the house under leximin, 0 under the other methods.
 pub struct Allotted {

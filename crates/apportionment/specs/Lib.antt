@@ -10,3 +10,4 @@ pub mod Divisor
 pub mod Remainders
 pub mod Allotment
 pub mod Examples
+pub mod inner

@@ -20,8 +20,8 @@ use native.Mathlib.Nat.{
 use native.Mathlib.Omega.{arith}
 use Rattle.apportionment.specs.Limits.{houseLimit}
 use Rattle.apportionment.specs.Quantities.{Fraction, hundredthsOf, nearestWhole}
-use Rattle.departure.specs.Edges.{at-most-wholes}
-use Rattle.departure.specs.Exact.{Moderate}
+use Rattle.departure.specs.inner.Edges.{at-most-wholes}
+use Rattle.departure.specs.inner.Exact.{Moderate}
 
 -- A whole part w with a remainder r, and the scaled remainder's quotient q with its rest s, lose nothing.
 stages-add-up : (scale under w r q s : ℕ)

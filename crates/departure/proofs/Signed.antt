@@ -14,7 +14,7 @@ use mir.Syntax.{w64}
 use mir.Val.{SFits, toZ, ofZ}
 use mir.ValLaws.{toZ-ofZ, toZ-pos}
 use borrow.Author.Tests.{ltb-true, ltb-false}
-use Rattle.departure.specs.Exact.{minus-below, minus-above, signed}
+use Rattle.departure.specs.inner.Exact.{minus-below, minus-above, signed}
 
 -- A word that holds an integer in range is read back as that integer.
 pub read-back : (n : ℤ) → mag n < 2 ^ 63 → toZ w64 (ofZ w64 n) ≡ n

@@ -1,4 +1,3 @@
 -- What an exact departure is, what the departure operation answers, and what is shown at the edges.
-pub mod Exact
 pub mod Answer
-pub mod Edges
+pub mod inner

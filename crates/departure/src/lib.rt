@@ -7,8 +7,9 @@ ghost use mathlib.Core.Path.{_≡_};
 ghost use Prim.Native.Nat.{_^_, _<_};
 ghost use lib.IntN.{natAbs, pos, _-ℤ_};
 ghost use Rattle.apportionment.specs.Quantities.{atMost, hundredthsOf, markOf};
-ghost use Rattle.departure.specs.Exact.{Moderate, exactOf, shown, signed, size};
-ghost use Rattle.departure.specs.Answer.{AnswerIs, InLimits, isOutside, isRefused};
+ghost use Rattle.departure.specs.inner.Exact.{Moderate, exactOf, shown, signed, size};
+ghost use Rattle.departure.specs.Answer.{AnswerIs, isOutside, isRefused};
+ghost use Rattle.departure.specs.inner.Answer.{InLimits};
 
 // A departure, exactly: (p H - a P) / (a P), not reduced.
 pub struct Departure {

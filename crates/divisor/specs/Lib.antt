@@ -1,5 +1,2 @@
 -- The divisor methods in machine words.
-pub mod Claims
-pub mod Moves
-pub mod Rounding
-pub mod Steps
+pub mod inner

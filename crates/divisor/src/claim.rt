@@ -5,7 +5,7 @@ ghost use Prim.Native.Nat.{_*_, _≤_};
 ghost use lib.Dec.{ltb};
 ghost use Rattle.apportionment.specs.Limits.{sumLimit};
 ghost use Rattle.apportionment.specs.Divisor.{signpost, weightOf};
-ghost use Rattle.divisor.specs.Claims.{held, claimFor, seatLimit, Counted};
+ghost use Rattle.divisor.specs.inner.Claims.{held, claimFor, seatLimit, Counted};
 
 // A claim d(a) / w; also a signpost d(a), the claim of a weight of 1.
 pub struct Claim {

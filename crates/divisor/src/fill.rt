@@ -6,9 +6,9 @@ ghost use mathlib.Core.Path.{_≡_};
 ghost use Prim.Native.Nat.{_*_, _≤_};
 ghost use Rattle.apportionment.specs.Limits.{houseLimit, stateLimit};
 ghost use Rattle.apportionment.specs.Divisor.{divisorSeats};
-ghost use Rattle.divisor.specs.Claims.{aimLimit};
-ghost use Rattle.divisor.specs.Rounding.{Problem};
-ghost use Rattle.divisor.specs.Steps.{Started};
+ghost use Rattle.divisor.specs.inner.Claims.{aimLimit};
+ghost use Rattle.divisor.specs.inner.Rounding.{Problem};
+ghost use Rattle.divisor.specs.inner.Steps.{Started};
 
 // The house to aim at once rounding for `house` has given so many seats: moved by what was lacking or too much.
 fn aim_of(house: u64, given: u64) -> u64

@@ -9,7 +9,7 @@ use apportionment::STATE_LIMIT;
 ghost use mathlib.Core.Path.{_≡_};
 ghost use Prim.Native.Nat.{_*_, _<_};
 ghost use lib.ListN.{length};
-ghost use Rattle.divisor.specs.Moves.{AllCounted, Moves, Played, Turn, Turned, movedBy, movedOnce, movedSeats};
+ghost use Rattle.divisor.specs.inner.Moves.{AllCounted, Moves, Played, Turn, Turned, movedBy, movedOnce, movedSeats};
 
 // Scans that look at so few states in all are faster than making a tournament, and so is a single scan.
 const FEW: u64 = 96;

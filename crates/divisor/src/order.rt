@@ -4,10 +4,10 @@ use crate::claim::claim_of;
 use apportionment::Method;
 ghost use mathlib.Core.Path.{_≡_};
 ghost use Prim.Native.Nat.{_<_};
-ghost use Rattle.claims.specs.Order.{wantsBefore, givesUpBefore};
-ghost use Rattle.claims.specs.DivisorClaims.{methodTest};
-ghost use Rattle.claims.specs.Tournament.{better};
-ghost use Rattle.divisor.specs.Moves.{AllCounted, Pair, firstToMove, movesBefore, noFewest};
+ghost use Rattle.claims.specs.inner.Order.{wantsBefore, givesUpBefore};
+ghost use Rattle.claims.specs.inner.DivisorClaims.{methodTest};
+ghost use Rattle.claims.specs.inner.Tournament.{better};
+ghost use Rattle.divisor.specs.inner.Moves.{AllCounted, Pair, firstToMove, movesBefore, noFewest};
 
 // State i's next claim comes before state j's.
 fn wants_before(method: Method, populations: &[u64], seats: &[u64], i: usize, j: usize) -> bool

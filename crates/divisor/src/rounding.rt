@@ -6,9 +6,9 @@ use crate::claim::weight_of;
 use apportionment::Method;
 ghost use mathlib.Core.Path.{_≡_};
 ghost use Prim.Native.Nat.{_≤_};
-ghost use Rattle.claims.specs.DivisorClaims.{rounded};
-ghost use Rattle.divisor.specs.Claims.{aimLimit};
-ghost use Rattle.divisor.specs.Rounding.{Rounds, States, Filled};
+ghost use Rattle.claims.specs.inner.DivisorClaims.{rounded};
+ghost use Rattle.divisor.specs.inner.Claims.{aimLimit};
+ghost use Rattle.divisor.specs.inner.Rounding.{Rounds, States, Filled};
 
 // The seats of one state: the whole part of p A / P, and one more unless the claim there passes the average.
 fn rounded_of(method: Method, population: u64, total: u64, aim: u64) -> u64

@@ -4,8 +4,8 @@ use apportionment::Method;
 ghost use mathlib.Core.Path.{_≡_};
 ghost use Prim.Native.Nat.{_*_, _<_};
 ghost use lib.ListN.{length};
-ghost use Rattle.claims.specs.TournamentReplay.{Planted, Decidable, beside};
-ghost use Rattle.divisor.specs.Moves.{AllCounted, Decided, Replays, Played};
+ghost use Rattle.claims.specs.inner.TournamentReplay.{Planted, Decidable, beside};
+ghost use Rattle.divisor.specs.inner.Moves.{AllCounted, Decided, Replays, Played};
 
 // Puts each state at its leaf.
 pub fn plant(states: usize, tree: &mut [usize])

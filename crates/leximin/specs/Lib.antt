@@ -1,8 +1,2 @@
 -- What the leximin layer's functions hand back, and that it is what the theory of claims speaks of.
-pub mod Sizes
-pub mod Scan
-pub mod Quotients
-pub mod Tournament
-pub mod Start
-pub mod Moves
-pub mod Settled
+pub mod inner

@@ -9,10 +9,10 @@ ghost use mathlib.Core.Path.{_≡_};
 ghost use Prim.Native.Nat.{_*_, _<_, _≤_};
 ghost use lib.ListN.{length};
 ghost use Rattle.apportionment.specs.Limits.{houseLimit};
-ghost use Rattle.claims.specs.Order.{placed, withdrawn};
-ghost use Rattle.claims.specs.SizeClaims.{sizeTest, oneEach};
-ghost use Rattle.leximin.specs.Scan.{Workable, Seated};
-ghost use Rattle.leximin.specs.Moves.{movedOnce, movedTimes, movedBy, Movable};
+ghost use Rattle.claims.specs.inner.Order.{placed, withdrawn};
+ghost use Rattle.claims.specs.inner.SizeClaims.{sizeTest, oneEach};
+ghost use Rattle.leximin.specs.inner.Scan.{Workable, Seated};
+ghost use Rattle.leximin.specs.inner.Moves.{movedOnce, movedTimes, movedBy, Movable};
 
 // The first claim not met is met.
 pub fn place(populations: &[u64], seats: &mut [u64], total: u64, house: u64)

@@ -4,9 +4,9 @@ use crate::sizes::size_of;
 ghost use mathlib.Core.Path.{_≡_};
 ghost use Prim.Native.Nat.{_+_};
 ghost use Rattle.apportionment.specs.Quantities.{less, sizeOf};
-ghost use Rattle.claims.specs.SizeClaims.{sizeBefore};
-ghost use Rattle.claims.specs.SizeQuotients.{risesBefore};
-ghost use Rattle.leximin.specs.Quotients.{Claimed, Climbing, Falling};
+ghost use Rattle.claims.specs.inner.SizeClaims.{sizeBefore};
+ghost use Rattle.claims.specs.inner.SizeQuotients.{risesBefore};
+ghost use Rattle.leximin.specs.inner.Quotients.{Claimed, Climbing, Falling};
 
 // The state's size rises with one seat more.
 fn rises(population: u64, seats: u64, total: u64, house: u64) -> bool

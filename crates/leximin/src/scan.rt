@@ -5,10 +5,10 @@ use crate::sizes::move_of;
 ghost use mathlib.Core.Path.{_≡_};
 ghost use Prim.Native.Nat.{_<_};
 ghost use lib.ListN.{length};
-ghost use Rattle.claims.specs.Order.{firstUnmet, lastMet};
-ghost use Rattle.claims.specs.SizeClaims.{sizeTest, oneEach};
-ghost use Rattle.leximin.specs.Sizes.{SmallMove, Measured};
-ghost use Rattle.leximin.specs.Scan.{Workable, betterOf, GiverAt, preferOf, Seated};
+ghost use Rattle.claims.specs.inner.Order.{firstUnmet, lastMet};
+ghost use Rattle.claims.specs.inner.SizeClaims.{sizeTest, oneEach};
+ghost use Rattle.leximin.specs.inner.Sizes.{SmallMove, Measured};
+ghost use Rattle.leximin.specs.inner.Scan.{Workable, betterOf, GiverAt, preferOf, Seated};
 
 // The best state of those looked at: its place and its claim.
 pub struct Candidate {

@@ -12,12 +12,12 @@ ghost use Prim.Native.Nat.{_≤_};
 ghost use lib.Dec.{ltb};
 ghost use lib.ListN.{length};
 ghost use Rattle.apportionment.specs.Leximin.{leximinFor, gap};
-ghost use Rattle.claims.specs.Order.{endsApart};
-ghost use Rattle.claims.specs.SizeClaims.{sizeTest, oneEach};
-ghost use Rattle.leximin.specs.Sizes.{SmallMove, lessMove};
-ghost use Rattle.leximin.specs.Scan.{Seated};
-ghost use Rattle.leximin.specs.Start.{Ready};
-ghost use Rattle.leximin.specs.Settled.{Settled};
+ghost use Rattle.claims.specs.inner.Order.{endsApart};
+ghost use Rattle.claims.specs.inner.SizeClaims.{sizeTest, oneEach};
+ghost use Rattle.leximin.specs.inner.Sizes.{SmallMove, lessMove};
+ghost use Rattle.leximin.specs.inner.Scan.{Seated};
+ghost use Rattle.leximin.specs.inner.Start.{Ready};
+ghost use Rattle.leximin.specs.inner.Settled.{Settled};
 
 // Fills the seat list with the leximin allotment of the house, from the start by single moves; the answer is how many there were.
 pub fn fill_leximin(populations: &[u64], total: u64, house: u64, seats: &mut [u64]) -> u64

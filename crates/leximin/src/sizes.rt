@@ -2,7 +2,7 @@
 ghost use mathlib.Core.Path.{_≡_};
 ghost use Prim.Native.Nat.{_+_};
 ghost use Rattle.apportionment.specs.Quantities.{distance};
-ghost use Rattle.leximin.specs.Sizes.{Measured, SizeIs, lessSize, Small, firstThen, MoveIs, lessMove, SmallMove};
+ghost use Rattle.leximin.specs.inner.Sizes.{Measured, SizeIs, lessSize, Small, firstThen, MoveIs, lessMove, SmallMove};
 
 // A size |p H - a P| / a. The factor P of its denominator is the same for every size of a problem, so it is left out, and products of
 // two such numbers stay below 2^63.

@@ -3,9 +3,9 @@ use crate::sizes::size_less;
 use crate::sizes::size_of;
 ghost use mathlib.Core.Path.{_≡_};
 ghost use lib.ListN.{length};
-ghost use Rattle.claims.specs.SizeClaims.{nearestRounded};
-ghost use Rattle.leximin.specs.Sizes.{Counted};
-ghost use Rattle.leximin.specs.Start.{Ready};
+ghost use Rattle.claims.specs.inner.SizeClaims.{nearestRounded};
+ghost use Rattle.leximin.specs.inner.Sizes.{Counted};
+ghost use Rattle.leximin.specs.inner.Start.{Ready};
 ghost use Rattle.apportionment.specs.Leximin.{startSeats, startTotal};
 
 // The seats nearest to p H / P: its whole part or one more, at least 1, the fewer where two are equally near.

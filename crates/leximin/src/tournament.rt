@@ -7,11 +7,11 @@ ghost use mathlib.Core.Bool.{true, false};
 ghost use Prim.Native.Nat.{_*_, _≤_};
 ghost use lib.ListN.{length};
 ghost use Rattle.apportionment.specs.Limits.{stateLimit};
-ghost use Rattle.claims.specs.Order.{wantsBefore, givesUpBefore};
-ghost use Rattle.claims.specs.SizeClaims.{sizeTest, oneEach};
-ghost use Rattle.claims.specs.TournamentReplay.{Planted};
-ghost use Rattle.leximin.specs.Quotients.{Sided};
-ghost use Rattle.leximin.specs.Tournament.{Pair, movesBefore, betterState, Champions, Moved};
+ghost use Rattle.claims.specs.inner.Order.{wantsBefore, givesUpBefore};
+ghost use Rattle.claims.specs.inner.SizeClaims.{sizeTest, oneEach};
+ghost use Rattle.claims.specs.inner.TournamentReplay.{Planted};
+ghost use Rattle.leximin.specs.inner.Quotients.{Sided};
+ghost use Rattle.leximin.specs.inner.Tournament.{Pair, movesBefore, betterState, Champions, Moved};
 
 // State i's next claim comes before state j's.
 fn wants_before(

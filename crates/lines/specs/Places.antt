@@ -13,7 +13,8 @@ use lib.Dec.{leb, eqb}
 use lib.ListN.{length, getD, take, drop, length-drop, drop-of-length-le}
 use lib.Seq.{take-take, drop-drop, length-take-le, getD-take}
 use Rattle.apportionment.specs.Limits.{stateLimit}
-use Rattle.apportionment.specs.Lists.{sameList, same-list-equal}
+use Rattle.apportionment.specs.Lists.{sameList}
+use Rattle.apportionment.specs.inner.Lists.{same-list-equal}
 use Rattle.fields.specs.Parts.{placeOf, before, after}
 use Rattle.fields.specs.Grammar.{lineFeed, comma, restOf, lineOf, lastByte, carriageReturn, withoutReturn, fieldOf}
 use Rattle.lines.specs.Lines.{nameAt, usedIn}

@@ -11,15 +11,16 @@ use lib.Dec.{leb, eqb}
 use lib.ListN.{length, getD, take, drop}
 use lib.Seq.{getD-take, length-take-le}
 use Rattle.apportionment.specs.Refusals.{accepted, bufferTooShort}
-use Rattle.apportionment.specs.Lists.{sum, entry-at-most-sum}
+use Rattle.apportionment.specs.Lists.{sum}
+use Rattle.apportionment.specs.inner.Lists.{entry-at-most-sum}
 use Rattle.apportionment.specs.Allotment.{seatsAfter}
-use Rattle.problem.specs.Passed.{AllotPassed, allot-passed}
+use Rattle.problem.specs.inner.Passed.{AllotPassed, allot-passed}
 use Rattle.allot.specs.declared.Allotted.{Allotted}
 use Rattle.allot.specs.Allot.{allottedOf, AllotmentIs}
-use Rattle.departure.specs.Answer.{InLimits}
+use Rattle.departure.specs.inner.Answer.{InLimits}
 use Rattle.fields.specs.Tests.{both, within-limits}
 use Rattle.fields.specs.Grammar.{restOf, wordLimit, isName}
-use Rattle.text.specs.Writing.{copiedOut, AtFront}
+use Rattle.text.specs.inner.Writing.{copiedOut, AtFront}
 use Rattle.register.specs.Register.{readingOf}
 use Rattle.register.specs.declared.Reading.{Reading}
 use Rattle.register.specs.Sound.{ReadingSound, reading-sound, reading-named}

@@ -10,9 +10,10 @@ use borrow.Author.Tests.{eq-eqb, ne-eqb, eqb-true, eqb-false, leb-true, le-leb}
 use lib.Dec.{leb, eqb}
 use lib.ListN.{length, drop}
 use Rattle.apportionment.specs.Refusals.{accepted, bufferTooShort}
-use Rattle.text.specs.Bounds.{refusal-line-length}
+use Rattle.text.specs.inner.Bounds.{refusal-line-length}
 use Rattle.text.specs.Shared.{refusalLine}
-use Rattle.text.specs.Writing.{Wrote, front-wrote}
+use Rattle.text.specs.Writing.{Wrote}
+use Rattle.text.specs.inner.Writing.{front-wrote}
 use Rattle.register.specs.Register.{readingOf}
 use Rattle.listing.specs.declared.Listed.{Listed}
 use Rattle.listing.specs.Listing.{listingOf, refused, allotRefusalIn, fittedOf, listedIn, listedOf, bufferAfter, ListingIs, printedOf}

@@ -13,19 +13,10 @@ use Rattle.apportionment.specs.Lists.{sum}
 use Rattle.apportionment.specs.Quantities.{sizeOf, markOf}
 use Rattle.apportionment.specs.declared.Method.{Method}
 use Rattle.fields.specs.Grammar.{wordLimit}
-use Rattle.text.specs.Bounds.{
-  decimal-of-sum,
-  decimal-of-house,
-  decimal-of-states,
-  mark-length,
-  method-length,
-  lines-length,
-  numbers-length,
-  total-line-length,
-}
-use Rattle.text.specs.ShownRoom.{shown-room}
+use Rattle.text.specs.inner.Bounds.{decimal-of-sum, decimal-of-house, decimal-of-states, mark-length, method-length, lines-length, numbers-length, total-line-length}
+use Rattle.text.specs.inner.ShownRoom.{shown-room}
 use Rattle.register.specs.declared.Reading.{Reading}
-use Rattle.departure.specs.Answer.{InLimits}
+use Rattle.departure.specs.inner.Answer.{InLimits}
 use Rattle.listing.specs.Listing.{headLine, departureText, stateLine, stateLines, populationsIn, listingIn}
 use Rattle.listing.specs.Rows.{Rows}
 

@@ -13,7 +13,7 @@ use Rattle.lines.specs.Lines.{nameAt}
 use Rattle.register.specs.Register.{readingOf}
 use Rattle.register.specs.Names.{linesAfter, nameOf}
 use Rattle.register.specs.Sound.{name-there}
-use Rattle.departure.specs.Answer.{InLimits}
+use Rattle.departure.specs.inner.Answer.{InLimits}
 use Rattle.listing.specs.Listing.{stateLine, stateLines, populationsIn, seatsIn, listingIn, listingOf}
 
 -- The name of state i, of those whose lines start here.

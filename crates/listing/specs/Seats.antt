@@ -13,12 +13,12 @@ use Rattle.apportionment.specs.Remainders.{remainderSeats, remainderSeatsAt}
 use Rattle.apportionment.specs.Allotment.{seatsEveryState, seatsOf}
 use Rattle.apportionment.specs.declared.Method.{Method}
 use Rattle.apportionment.specs.declared.Method.the-variants.{Leximin, Adams, Dean, Hill, Webster, Jefferson, Remainders}
-use Rattle.claims.specs.StandingMoves.{length-listOf}
-use Rattle.claims.specs.DivisorRounding.{signposts-increase, weight-positive}
-use Rattle.claims.specs.DivisorSeats.{claims-met-standing, claims-met-sum}
-use Rattle.claims.specs.SizeClaims.{Sound}
-use Rattle.claims.specs.LeximinSteps.{moved-standing, moved-total, last-step-leximin, total-at-gap}
-use Rattle.problem.specs.Passed.{Passed, AllotPassed}
+use Rattle.claims.specs.inner.StandingMoves.{length-listOf}
+use Rattle.claims.specs.inner.DivisorRounding.{signposts-increase, weight-positive}
+use Rattle.claims.specs.inner.DivisorSeats.{claims-met-standing, claims-met-sum}
+use Rattle.claims.specs.inner.SizeClaims.{Sound}
+use Rattle.claims.specs.inner.LeximinSteps.{moved-standing, moved-total, last-step-leximin, total-at-gap}
+use Rattle.problem.specs.inner.Passed.{Passed, AllotPassed}
 use Rattle.remainders.specs.House.{seats-sum-to-house}
 
 -- So many seats for so many states.

@@ -7,7 +7,7 @@ ghost use mathlib.Core.Path.{_≡_};
 ghost use mathlib.Core.List.{[]};
 ghost use Prim.Native.Nat.{ℕ, _<_};
 ghost use lib.ListN.{length};
-ghost use Rattle.departure.specs.Answer.{InLimits};
+ghost use Rattle.departure.specs.inner.Answer.{InLimits};
 ghost use Rattle.text.specs.Writing.{Wrote};
 ghost use Rattle.listing.specs.Listing.{headLine, departureText, stateLine, stateLines};
 ghost use Rattle.listing.specs.Rows.{namesFrom, Rows};

@@ -18,16 +18,16 @@ use denote.Triple.Clauses.{AtExit}
 use borrow.Fn.Kinds.{Dens, endedOf}
 use Rattle.apportionment.specs.Refusals.{accepted, houseReached}
 use Rattle.apportionment.specs.Leximin.{leximinFor, startTotal, gap, totalAfter}
-use Rattle.claims.specs.StartBounds.{gap-below-states}
-use Rattle.claims.specs.LeximinSteps.{states-at-most-passed}
-use Rattle.claims.specs.LeastOfAll.{LeastOfAll, leximin-least-of-all}
+use Rattle.claims.specs.inner.StartBounds.{gap-below-states}
+use Rattle.claims.specs.inner.LeximinSteps.{states-at-most-passed}
+use Rattle.claims.specs.inner.LeastOfAll.{LeastOfAll, leximin-least-of-all}
 use Rattle.problem.specs.Opening.{openRefusal}
-use Rattle.problem.specs.Passed.{open-passed}
-use Rattle.leximin.specs.Start.{ready-sound}
+use Rattle.problem.specs.inner.Passed.{open-passed}
+use Rattle.leximin.specs.inner.Start.{ready-sound}
 use Rattle.placing.specs.Placing.{padded, placingAt, started, openedOf, steppedOf, refusedWith}
-use Rattle.placing.specs.Lists.{take-padded}
-use Rattle.placing.specs.Telling.{opened-ready}
-use Rattle.placing.specs.Walk.{start-is-first, step-before-house, step-at-house}
+use Rattle.placing.specs.inner.Lists.{take-padded}
+use Rattle.placing.specs.inner.Telling.{opened-ready}
+use Rattle.placing.specs.inner.Walk.{start-is-first, step-before-house, step-at-house}
 use Rattle.placing.specs.declared.Placing.{Placing}
 use Rattle.placing.specs.declared.Placed.{Placed}
 use Rattle.placing.proofs.Placing.step.Reads as step-reads

@@ -14,9 +14,9 @@ ghost use mathlib.Core.Bool.{false, cond, _&&_};
 ghost use lib.Dec.{leb, eqb};
 ghost use lib.ListN.{length, take};
 ghost use Rattle.apportionment.specs.Leximin.{gap, totalAfter};
-ghost use Rattle.leximin.specs.Start.{Ready};
+ghost use Rattle.leximin.specs.inner.Start.{Ready};
 ghost use Rattle.placing.specs.Placing.{genuine};
-ghost use Rattle.placing.specs.Genuine.{stepsAgree, seatsAgree};
+ghost use Rattle.placing.specs.inner.Genuine.{stepsAgree, seatsAgree};
 
 // The steps are no more than the gap, and the total is the one that they lead to.
 fn steps_agree(populations: &[u64], sum: u64, house: u64, total: u64, steps: u64) -> bool

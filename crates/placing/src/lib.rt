@@ -17,9 +17,9 @@ use problem::open_refusal;
 use problem::total_of;
 ghost use mathlib.Core.Path.{_≡_};
 ghost use Prim.Native.Nat.{_+_};
-ghost use Rattle.leximin.specs.Start.{Ready};
+ghost use Rattle.leximin.specs.inner.Start.{Ready};
 ghost use Rattle.placing.specs.Placing.{openedOf, steppedOf, emptyPlacing, started, refusedWith, placingAt, peopleOf};
-ghost use Rattle.placing.specs.Telling.{Genuine};
+ghost use Rattle.placing.specs.inner.Telling.{Genuine};
 
 // Populations, house and seats, in arrays that hold 0 past their `states` places; the seats' total; the steps made since opening.
 pub struct Placing {

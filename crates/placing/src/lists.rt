@@ -1,7 +1,7 @@
 // Walks over the lists that a placing holds.
 ghost use mathlib.Core.Path.{_≡_};
 ghost use lib.ListN.{length, drop};
-ghost use Rattle.placing.specs.Lists.{allZero, eachWithin};
+ghost use Rattle.placing.specs.inner.Lists.{allZero, eachWithin};
 
 // Copies a list over another of its length.
 pub fn copy_into(from: &[u64], to: &mut [u64])

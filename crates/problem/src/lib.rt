@@ -13,7 +13,7 @@ use apportionment::refusals::STATES_OUT_OF_LIMITS;
 use apportionment::refusals::SUM_TOO_LARGE;
 ghost use mathlib.Core.Path.{_≡_};
 ghost use Rattle.apportionment.specs.Allotment.{hasZero, problemRefusal, seatsEveryState, houseRefusal, allotRefusal};
-ghost use Rattle.problem.specs.Total.{cappedTotal};
+ghost use Rattle.problem.specs.inner.Total.{cappedTotal};
 ghost use Rattle.problem.specs.Opening.{openRefusal};
 
 // Some population is 0.

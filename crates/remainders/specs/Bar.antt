@@ -12,7 +12,8 @@ use native.Mathlib.Nat.{zero-add, suc-add}
 use lib.Dec.{ltb, leb, eqb}
 use lib.ListN.{length, getD}
 use borrow.Author.Tests.{ltb-true, ltb-false, leb-true, leb-false, lt-ltb, le-ltb, eq-eqb, ne-eqb}
-use Rattle.apportionment.specs.Lists.{sum, countBelow, entry-at-most-sum}
+use Rattle.apportionment.specs.Lists.{sum, countBelow}
+use Rattle.apportionment.specs.inner.Lists.{entry-at-most-sum}
 use Rattle.remainders.specs.Building.{count-none}
 use Rattle.remainders.specs.Standing.{rankIn, extraIn, reaches, count-reached, count-passed-by, rank-in-parts}
 

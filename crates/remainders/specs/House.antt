@@ -9,7 +9,7 @@ use native.Mathlib.Numerals.{add-one}
 use lib.ListN.{length, getD}
 use Rattle.apportionment.specs.Lists.{sum, listOf}
 use Rattle.apportionment.specs.Remainders.{wholePart, seatsLeft, remainderSeats}
-use Rattle.problem.specs.Passed.{Passed}
+use Rattle.problem.specs.inner.Passed.{Passed}
 use Rattle.remainders.specs.Building.{list-of-places, length-of, sum-of-none, sum-of-one-more, sum-of-both, count-none}
 use Rattle.remainders.specs.WholeParts.{wholeParts, whole-parts-within, left-within-states}
 use Rattle.remainders.specs.Standing.{standingAt, standingsOf, extraIn, reaches}

@@ -8,7 +8,7 @@ use native.Mathlib.Omega.{arith}
 use lib.ListN.{length, getD}
 use Rattle.apportionment.specs.Lists.{sum, listOf}
 use Rattle.apportionment.specs.Remainders.{wholePart, seatsLeft, remainderSeatsAt, remainderSeats}
-use Rattle.problem.specs.Passed.{Passed}
+use Rattle.problem.specs.inner.Passed.{Passed}
 use Rattle.remainders.specs.Building.{length-of, getD-of, is-list-of, list-of-agrees, sum-of-one-more}
 use Rattle.remainders.specs.WholeParts.{wholeParts, sum-above-zero, whole-parts-within, left-within-states}
 use Rattle.remainders.specs.Standing.{

@@ -18,9 +18,10 @@ use native.Mathlib.Nat.{
 }
 use lib.ListN.{length, getD}
 use Rattle.apportionment.specs.Limits.{sumLimit, houseLimit}
-use Rattle.apportionment.specs.Lists.{sum, listOf, entry-at-most-sum}
+use Rattle.apportionment.specs.Lists.{sum, listOf}
+use Rattle.apportionment.specs.inner.Lists.{entry-at-most-sum}
 use Rattle.apportionment.specs.Remainders.{wholePart, seatsLeft}
-use Rattle.problem.specs.Passed.{Passed}
+use Rattle.problem.specs.inner.Passed.{Passed}
 use Rattle.remainders.specs.Building.{list-of-places, sum-of-places, sum-of-scaled, sum-of-both, sum-of-ones}
 
 -- What the functions of this crate are given: populations and a house that passed the checks, their sum, and a list to fill.

@@ -16,19 +16,12 @@ use Rattle.apportionment.specs.Limits.{stateLimit, houseLimit, sumLimit}
 use Rattle.apportionment.specs.Text.{bytesOf, decimal}
 use Rattle.apportionment.specs.Quantities.{shownOf, shownText}
 use Rattle.fields.specs.Grammar.{wordLimit}
-use Rattle.departure.specs.Answer.{departureShown, isRefused, neither, not-refused}
+use Rattle.departure.specs.Answer.{departureShown, isRefused}
+use Rattle.departure.specs.inner.Answer.{neither, not-refused}
 use Rattle.lines.specs.Lines.{nameAt}
 use Rattle.register.specs.Names.{linesAfter}
-use Rattle.text.specs.Bounds.{
-  decimal-length,
-  decimal-of-sum,
-  decimal-of-house,
-  decimal-of-states,
-  numbers-length,
-  total-line-length,
-  lines-length,
-}
-use Rattle.text.specs.ShownRoom.{shown-room}
+use Rattle.text.specs.inner.Bounds.{decimal-length, decimal-of-sum, decimal-of-house, decimal-of-states, numbers-length, total-line-length, lines-length}
+use Rattle.text.specs.inner.ShownRoom.{shown-room}
 use Rattle.placing.specs.declared.Placing.{Placing}
 use Rattle.showing.specs.Work.{
   departureText,

@@ -1,6 +1,4 @@
 -- What it means that text was written into a lent buffer, the words that are written, and how long a piece of text can be.
 pub mod Writing
 pub mod Shared
-pub mod Decimal
-pub mod Bounds
-pub mod ShownRoom
+pub mod inner

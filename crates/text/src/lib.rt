@@ -12,7 +12,8 @@ ghost use lib.ListN.{length};
 ghost use Rattle.apportionment.specs.Text.{decimal, digit};
 ghost use Rattle.apportionment.specs.Methods.{methodText};
 ghost use Rattle.apportionment.specs.Quantities.{hundredthsText, shownText, markText};
-ghost use Rattle.text.specs.Writing.{Wrote, laid, copiedOut};
+ghost use Rattle.text.specs.Writing.{Wrote, laid};
+ghost use Rattle.text.specs.inner.Writing.{copiedOut};
 ghost use Rattle.text.specs.Shared.{numbersText, totalLine, refusalLine};
 
 // One byte.

@@ -13,15 +13,16 @@ use lib.Seq.{length-take-le}
 use borrow.Author.Tests.{eqb-true, eqb-false, ltb-true, ltb-false}
 use Rattle.apportionment.specs.Limits.{stateLimit, houseLimit}
 use Rattle.apportionment.specs.Refusals.{accepted, houseReached}
-use Rattle.apportionment.specs.Lists.{sum, entry-at-most-sum}
+use Rattle.apportionment.specs.Lists.{sum}
+use Rattle.apportionment.specs.inner.Lists.{entry-at-most-sum}
 use Rattle.apportionment.specs.Quantities.{distance}
 use Rattle.apportionment.specs.Leximin.{leximinFor, startTotal, gap, totalAfter}
-use Rattle.claims.specs.StartBounds.{gap-below-states}
-use Rattle.claims.specs.LeximinSteps.{states-at-most-passed}
-use Rattle.claims.specs.LeastOfAll.{leximin-least-of-all}
+use Rattle.claims.specs.inner.StartBounds.{gap-below-states}
+use Rattle.claims.specs.inner.LeximinSteps.{states-at-most-passed}
+use Rattle.claims.specs.inner.LeastOfAll.{leximin-least-of-all}
 use Rattle.problem.specs.Opening.{openRefusal}
-use Rattle.problem.specs.Passed.{OpenPassed, open-passed}
-use Rattle.leximin.specs.Start.{ready-sound}
+use Rattle.problem.specs.inner.Passed.{OpenPassed, open-passed}
+use Rattle.leximin.specs.inner.Start.{ready-sound}
 use Rattle.fields.specs.Grammar.{wordLimit, restOf, name-length}
 use Rattle.lines.specs.Lines.{nameAt}
 use Rattle.register.specs.Register.{readingOf}
@@ -29,9 +30,9 @@ use Rattle.register.specs.Names.{linesAfter}
 use Rattle.register.specs.Sound.{ReadingSound, reading-sound, reading-named}
 use Rattle.register.specs.declared.Reading.{Reading}
 use Rattle.placing.specs.Placing.{padded, started, placingAt, openedOf, steppedOf, refusedWith, peopleOf}
-use Rattle.placing.specs.Lists.{take-padded}
-use Rattle.placing.specs.Telling.{opened-ready}
-use Rattle.placing.specs.Walk.{start-is-first, step-before-house, step-at-house}
+use Rattle.placing.specs.inner.Lists.{take-padded}
+use Rattle.placing.specs.inner.Telling.{opened-ready}
+use Rattle.placing.specs.inner.Walk.{start-is-first, step-before-house, step-at-house}
 use Rattle.placing.specs.declared.Placing.{Placing}
 use Rattle.placing.specs.declared.Placed.{Placed}
 use Rattle.showing.specs.Work.{statesIn}

@@ -1,9 +1,9 @@
 -- `allot::allot` meets its contract: the refusal picks the case of the definition; without one the checks have passed and the total is the sum.
 -- Assumes nothing.
 use mathlib.Core.Path.{sym, _∙_}
-use Rattle.problem.specs.Passed.{allot-passed}
-use Rattle.problem.specs.Total.{total-is-sum}
-use Rattle.allot.specs.Allot.{refused-untouched, accepted-filled}
+use Rattle.problem.specs.inner.Passed.{allot-passed}
+use Rattle.problem.specs.inner.Total.{total-is-sum}
+use Rattle.allot.specs.inner.Allot.{refused-untouched, accepted-filled}
 use borrow.Author.Needs.{needs}
 use Rattle.allot.proofs.allot.Statement.{statement}
 use Rattle.allot.proofs.allot.Tie as tie

@@ -2,7 +2,7 @@
 -- Assumes nothing.
 use mathlib.Core.Path.{sym}
 use lib.Seq.{length-take-le}
-use Rattle.text.specs.Writing.{AtFront, wrote-front}
+use Rattle.text.specs.inner.Writing.{AtFront, wrote-front}
 use Rattle.listing.specs.Listing.{listingIn}
 use Rattle.listing.specs.Room.{listing-has-room}
 use Rattle.listing.specs.Rows.{namesFrom}

@@ -3,8 +3,8 @@
 use native.Mathlib.Omega.{arith}
 use mathlib.Core.Path.{sym, _∙_}
 use lib.Seq.{length-take-le}
-use Rattle.text.specs.Writing.{wrote-on, wrote-then}
-use Rattle.problem.specs.Total.{total-is-sum}
+use Rattle.text.specs.inner.Writing.{wrote-on, wrote-then}
+use Rattle.problem.specs.inner.Total.{total-is-sum}
 use Rattle.listing.specs.Listing.{listingIn}
 use Rattle.listing.specs.Room.{listable-rows}
 use borrow.Author.Needs.{needs}

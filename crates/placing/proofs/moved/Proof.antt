@@ -6,8 +6,8 @@ use lib.Seq.{length-take-le}
 use native.Mathlib.Omega.{arith}
 use Rattle.apportionment.specs.Limits.{stateLimit}
 use Rattle.placing.specs.Placing.{peopleOf}
-use Rattle.placing.specs.Telling.{opened-parts}
-use Rattle.placing.specs.Stepping.{states-fit, steps-fit, seats-ready, placed-next, withdrawn-next}
+use Rattle.placing.specs.inner.Telling.{opened-parts}
+use Rattle.placing.specs.inner.Stepping.{states-fit, steps-fit, seats-ready, placed-next, withdrawn-next}
 use borrow.Author.Needs.{needs}
 use Rattle.placing.proofs.moved.Statement.{statement}
 use Rattle.placing.proofs.moved.Tie as tie

@@ -2,10 +2,10 @@
 -- Assumes nothing.
 use mathlib.Core.Path.{refl, sym}
 use lib.Seq.{length-take-le}
-use Rattle.claims.specs.StartSeats.{length-start}
+use Rattle.claims.specs.inner.StartSeats.{length-start}
 use Rattle.placing.specs.Placing.{started}
-use Rattle.placing.specs.Lists.{laid-over-zeros}
-use Rattle.placing.specs.Telling.{record-equal}
+use Rattle.placing.specs.inner.Lists.{laid-over-zeros}
+use Rattle.placing.specs.inner.Telling.{record-equal}
 use borrow.Author.Needs.{needs}
 use Rattle.placing.proofs.started_placing.Statement.{statement}
 use Rattle.placing.proofs.started_placing.Tie as tie

@@ -6,7 +6,7 @@ use native.Mathlib.Omega.{arith}
 use lib.ListN.{length, getD}
 use borrow.Author.Count.{below-more}
 use borrow.Author.Needs.{needs}
-use Rattle.problem.specs.Populations.{zero-is-found, none-is-zero}
+use Rattle.problem.specs.inner.Populations.{zero-is-found, none-is-zero}
 use Rattle.problem.proofs.has_zero.Statement.{statement}
 use Rattle.problem.proofs.has_zero.Tie as tie
 

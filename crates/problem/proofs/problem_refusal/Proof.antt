@@ -7,7 +7,7 @@ use borrow.Author.Tests.{eq-eqb, ne-eqb, le-leb, lt-leb}
 use lib.ListN.{length}
 use Rattle.apportionment.specs.Limits.{stateLimit, houseLimit}
 use Rattle.apportionment.specs.Allotment.{within, problemRefusal}
-use Rattle.problem.specs.Total.{total-tells}
+use Rattle.problem.specs.inner.Total.{total-tells}
 use Rattle.problem.proofs.problem_refusal.Statement.{statement}
 use Rattle.problem.proofs.problem_refusal.Tie as tie
 

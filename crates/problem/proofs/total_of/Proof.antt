@@ -8,8 +8,8 @@ use lib.ListN.{length, drop}
 use borrow.Author.Needs.{needs}
 use Rattle.apportionment.specs.Limits.{sumLimit}
 use Rattle.apportionment.specs.Lists.{sum}
-use Rattle.problem.specs.Populations.{sum-from, sum-past-end}
-use Rattle.problem.specs.Total.{total-is-sum, total-past-limit}
+use Rattle.problem.specs.inner.Populations.{sum-from, sum-past-end}
+use Rattle.problem.specs.inner.Total.{total-is-sum, total-past-limit}
 use Rattle.problem.proofs.total_of.Statement.{statement}
 use Rattle.problem.proofs.total_of.Tie as tie
 

@@ -3,7 +3,7 @@
 use mathlib.Core.Path.{sym, _∙_}
 use borrow.Author.Needs.{needs}
 use Rattle.showing.specs.Work.{states-fit, states-taken, standText, populationsIn, seatsIn}
-use Rattle.text.specs.Writing.{wrote-then}
+use Rattle.text.specs.inner.Writing.{wrote-then}
 use Rattle.showing.proofs.put_stand.Statement.{statement}
 use Rattle.showing.proofs.put_stand.Tie as tie
 

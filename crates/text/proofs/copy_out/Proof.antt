@@ -6,7 +6,7 @@ use native.Mathlib.Omega.{arith}
 use borrow.Author.Tests.{le-leb, lt-leb}
 use borrow.Author.Needs.{needs}
 use lib.ListN.{length}
-use Rattle.text.specs.Writing.{copiedOut, wrote-copied}
+use Rattle.text.specs.inner.Writing.{copiedOut, wrote-copied}
 use Rattle.text.proofs.copy_out.Statement.{statement}
 use Rattle.text.proofs.copy_out.Tie as tie
 

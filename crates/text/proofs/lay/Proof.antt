@@ -8,7 +8,8 @@ use Prim.Native.Nat.{ℕ, _+_, _≤_, _-_}
 use native.Mathlib.Omega.{arith}
 use lib.ListN.{length, take}
 use lib.Seq.{take-all}
-use Rattle.text.specs.Writing.{laid, laid-length, laid-byte}
+use Rattle.text.specs.Writing.{laid}
+use Rattle.text.specs.inner.Writing.{laid-length, laid-byte}
 use Rattle.text.proofs.lay.Statement.{statement}
 use Rattle.text.proofs.lay.Tie as tie
 

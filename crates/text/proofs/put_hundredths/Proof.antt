@@ -2,7 +2,7 @@
 -- Assumes nothing.
 use borrow.Author.Needs.{needs}
 use Rattle.apportionment.specs.Quantities.{hundredthsText}
-use Rattle.text.specs.Writing.{wrote-then}
+use Rattle.text.specs.inner.Writing.{wrote-then}
 use Rattle.text.proofs.put_hundredths.Statement.{statement}
 use Rattle.text.proofs.put_hundredths.Tie as tie
 

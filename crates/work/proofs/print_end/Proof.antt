@@ -2,7 +2,7 @@
 -- Assumes nothing.
 use mathlib.Core.Path.{sym}
 use lib.Seq.{length-take-le}
-use Rattle.text.specs.Writing.{wrote-front}
+use Rattle.text.specs.inner.Writing.{wrote-front}
 use Rattle.showing.specs.Room.{end-fits}
 use borrow.Author.Needs.{needs}
 use Rattle.work.proofs.print_end.Statement.{statement}

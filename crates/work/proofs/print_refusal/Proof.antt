@@ -3,8 +3,8 @@
 use mathlib.Core.Path.{sym}
 use native.Mathlib.Omega.{arith}
 use lib.Seq.{length-take-le}
-use Rattle.text.specs.Writing.{wrote-front}
-use Rattle.text.specs.Bounds.{refusal-line-length}
+use Rattle.text.specs.inner.Writing.{wrote-front}
+use Rattle.text.specs.inner.Bounds.{refusal-line-length}
 use borrow.Author.Needs.{needs}
 use Rattle.work.proofs.print_refusal.Statement.{statement}
 use Rattle.work.proofs.print_refusal.Tie as tie

@@ -1,7 +1,7 @@
 -- `departure::Departure::hundredths` is right because it rounds the size and then gives it the numerator's sign.
 -- Assumes nothing.
 use borrow.Author.Needs.{needs}
-use Rattle.departure.specs.Exact.{shown, size}
+use Rattle.departure.specs.inner.Exact.{shown, size}
 use Rattle.departure.proofs.Rounding.{moderate-fits}
 use Rattle.departure.proofs.Signed.{read-back}
 use Rattle.departure.proofs.Departure.hundredths.Statement.{statement}

@@ -3,7 +3,7 @@
 use mathlib.Core.Path.{_∙_, sym}
 use borrow.Author.Needs.{needs}
 use Rattle.apportionment.specs.Quantities.{markOf}
-use Rattle.departure.specs.Exact.{size}
+use Rattle.departure.specs.inner.Exact.{size}
 use Rattle.departure.proofs.Departure.mark.Statement.{statement}
 use Rattle.departure.proofs.Departure.mark.Tie as tie
 

@@ -1,8 +1,8 @@
 -- `departure::Departure::of` is right because both products are far below 2^63, so that their difference is a signed word.
 -- Assumes nothing.
 use native.Mathlib.Omega.{arith}
-use Rattle.departure.specs.Answer.{people-bounded, average-bounded}
-use Rattle.departure.specs.Exact.{exactOf}
+use Rattle.departure.specs.inner.Answer.{people-bounded, average-bounded}
+use Rattle.departure.specs.inner.Exact.{exactOf}
 use Rattle.departure.proofs.Signed.{read-back}
 use Rattle.departure.proofs.Departure.of.Statement.{statement}
 use Rattle.departure.proofs.Departure.of.Tie as tie

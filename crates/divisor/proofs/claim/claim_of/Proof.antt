@@ -2,7 +2,7 @@
 -- Assumes nothing.
 use borrow.Author.Needs.{needs}
 use Rattle.apportionment.specs.Divisor.{claimOf}
-use Rattle.divisor.specs.Claims.{held, claimFor, claim-fits}
+use Rattle.divisor.specs.inner.Claims.{held, claimFor, claim-fits}
 use Rattle.divisor.proofs.claim.claim_of.Statement.{statement}
 use Rattle.divisor.proofs.claim.claim_of.Tie as tie
 

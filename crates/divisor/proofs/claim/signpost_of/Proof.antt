@@ -12,8 +12,8 @@ use Rattle.apportionment.specs.Divisor.{signpost}
 use Rattle.apportionment.specs.declared.Method.{Method}
 use Rattle.apportionment.specs.declared.Method.the-variants.{Leximin, Adams, Dean, Hill, Webster, Jefferson, Remainders}
 use Rattle.divisor.specs.declared.claim.Claim.{Claim}
-use Rattle.claims.specs.MachineWords.{product-fits}
-use Rattle.divisor.specs.Claims.{held, seatLimit}
+use Rattle.claims.specs.inner.MachineWords.{product-fits}
+use Rattle.divisor.specs.inner.Claims.{held, seatLimit}
 use Rattle.divisor.proofs.claim.signpost_of.Statement.{statement}
 use Rattle.divisor.proofs.claim.signpost_of.Tie as tie
 

@@ -4,7 +4,7 @@ use mathlib.Core.Path.{_∙_}
 use mathlib.Core.Bool.{true, false, false≢true}
 use native.Mathlib.Omega.{arith}
 use borrow.Author.Needs.{needs}
-use Rattle.divisor.specs.Steps.{start-moves, withdrawn-is-divisor, placed-is-divisor}
+use Rattle.divisor.specs.inner.Steps.{start-moves, withdrawn-is-divisor, placed-is-divisor}
 use Rattle.divisor.proofs.fill.fill_divisor.Statement.{statement}
 use Rattle.divisor.proofs.fill.fill_divisor.Tie as tie
 

@@ -2,7 +2,7 @@
 -- Assumes nothing.
 use native.Mathlib.Omega.{arith}
 use borrow.Author.Needs.{needs}
-use Rattle.divisor.specs.Rounding.{states-kept}
+use Rattle.divisor.specs.inner.Rounding.{states-kept}
 use Rattle.divisor.proofs.fill.fill_near.Statement.{statement}
 use Rattle.divisor.proofs.fill.fill_near.Tie as tie
 

@@ -2,7 +2,7 @@
 -- Assumes nothing.
 use native.Mathlib.Omega.{arith}
 use borrow.Author.Needs.{needs}
-use Rattle.divisor.specs.Moves.{root-lt, root-within, root-moved, root-replays}
+use Rattle.divisor.specs.inner.Moves.{root-lt, root-within, root-moved, root-replays}
 use Rattle.divisor.proofs.moves.move_one.Statement.{statement}
 use Rattle.divisor.proofs.moves.move_one.Tie as tie
 

@@ -3,7 +3,7 @@
 use mathlib.Core.Path.{_≡_, sym, _∙_}
 use Prim.Native.Nat.{_-_, _≤_}
 use native.Mathlib.Omega.{arith}
-use Rattle.divisor.specs.Moves.{Moving, moved-counted, moving-none, moving-turn, moving-more}
+use Rattle.divisor.specs.inner.Moves.{Moving, moved-counted, moving-none, moving-turn, moving-more}
 use Rattle.divisor.proofs.moves.move_seats.Statement.{statement}
 use Rattle.divisor.proofs.moves.move_seats.Tie as tie
 

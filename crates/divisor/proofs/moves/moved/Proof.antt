@@ -2,7 +2,7 @@
 -- Assumes nothing.
 use native.Mathlib.Omega.{arith}
 use borrow.Author.Needs.{needs}
-use Rattle.divisor.specs.Moves.{movedBy}
+use Rattle.divisor.specs.inner.Moves.{movedBy}
 use Rattle.divisor.proofs.moves.moved.Statement.{statement}
 use Rattle.divisor.proofs.moves.moved.Tie as tie
 

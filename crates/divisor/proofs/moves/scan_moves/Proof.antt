@@ -4,7 +4,7 @@ use mathlib.Core.Path.{_≡_, sym, _∙_}
 use Prim.Native.Nat.{_-_, _≤_}
 use native.Mathlib.Omega.{arith}
 use borrow.Author.Needs.{needs}
-use Rattle.divisor.specs.Moves.{movedSeats, moved-none, moved-more, moved-counted}
+use Rattle.divisor.specs.inner.Moves.{movedSeats, moved-none, moved-more, moved-counted}
 use Rattle.divisor.proofs.moves.scan_moves.Statement.{statement}
 use Rattle.divisor.proofs.moves.scan_moves.Tie as tie
 

@@ -3,7 +3,7 @@
 use mathlib.Core.Path.{sym, _∙_}
 use borrow.Author.Tests.{lt-ltb, le-ltb}
 use borrow.Author.Needs.{needs}
-use Rattle.claims.specs.Tournament.{better}
+use Rattle.claims.specs.inner.Tournament.{better}
 use Rattle.divisor.proofs.order.better_of.Statement.{statement}
 use Rattle.divisor.proofs.order.better_of.Tie as tie
 

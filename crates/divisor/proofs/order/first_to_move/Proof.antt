@@ -6,8 +6,8 @@ use native.Mathlib.Omega.{arith}
 use lib.ListN.{length}
 use borrow.Author.Needs.{needs}
 use Rattle.apportionment.specs.Lists.{firstPlace}
-use Rattle.claims.specs.Tournament.{scan-next}
-use Rattle.divisor.specs.Moves.{movesBefore, first-so-far-lt}
+use Rattle.claims.specs.inner.Tournament.{scan-next}
+use Rattle.divisor.specs.inner.Moves.{movesBefore, first-so-far-lt}
 use Rattle.divisor.proofs.order.first_to_move.Statement.{statement}
 use Rattle.divisor.proofs.order.first_to_move.Tie as tie
 

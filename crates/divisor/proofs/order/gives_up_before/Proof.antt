@@ -5,9 +5,9 @@ use lib.ListN.{getD}
 use borrow.Author.Tests.{lt-ltb, le-ltb}
 use borrow.Author.Needs.{needs}
 use Rattle.apportionment.specs.Quantities.{less}
-use Rattle.claims.specs.Order.{givesUpBefore}
-use Rattle.claims.specs.DivisorClaims.{divisorTest}
-use Rattle.divisor.specs.Claims.{one-less-counted, claimFor, held}
+use Rattle.claims.specs.inner.Order.{givesUpBefore}
+use Rattle.claims.specs.inner.DivisorClaims.{divisorTest}
+use Rattle.divisor.specs.inner.Claims.{one-less-counted, claimFor, held}
 use Rattle.divisor.proofs.order.gives_up_before.Statement.{statement}
 use Rattle.divisor.proofs.order.gives_up_before.Tie as tie
 

@@ -1,7 +1,7 @@
 -- `divisor::order::moves_before` is right because which way seats move decides which of the theory's orders is meant.
 -- Assumes nothing.
 use borrow.Author.Needs.{needs}
-use Rattle.divisor.specs.Moves.{movesBefore}
+use Rattle.divisor.specs.inner.Moves.{movesBefore}
 use Rattle.divisor.proofs.order.moves_before.Statement.{statement}
 use Rattle.divisor.proofs.order.moves_before.Tie as tie
 

@@ -3,9 +3,9 @@
 use mathlib.Core.Path.{_∙_}
 use borrow.Author.Needs.{needs}
 use Rattle.apportionment.specs.Quantities.{less}
-use Rattle.claims.specs.Order.{wantsBefore}
-use Rattle.claims.specs.DivisorClaims.{divisorTest}
-use Rattle.divisor.specs.Claims.{claimFor, held}
+use Rattle.claims.specs.inner.Order.{wantsBefore}
+use Rattle.claims.specs.inner.DivisorClaims.{divisorTest}
+use Rattle.divisor.specs.inner.Claims.{claimFor, held}
 use Rattle.divisor.proofs.order.wants_before.Statement.{statement}
 use Rattle.divisor.proofs.order.wants_before.Tie as tie
 

@@ -4,7 +4,7 @@ use Prim.Native.Nat.{_-_}
 use native.Mathlib.Omega.{arith}
 use lib.ListN.{length}
 use borrow.Author.Needs.{needs}
-use Rattle.divisor.specs.Rounding.{Filling, each-rounds, own-at-most, filling-none, filling-more, filling-done}
+use Rattle.divisor.specs.inner.Rounding.{Filling, each-rounds, own-at-most, filling-none, filling-more, filling-done}
 use Rattle.divisor.proofs.rounding.fill_rounded.Statement.{statement}
 use Rattle.divisor.proofs.rounding.fill_rounded.Tie as tie
 

@@ -5,10 +5,10 @@ use native.Mathlib.Omega.{arith}
 use native.Mathlib.Nat.{le-trans}
 use borrow.Author.Needs.{needs}
 use Rattle.apportionment.specs.Limits.{sumLimit}
-use Rattle.claims.specs.DivisorClaims.{rounded}
-use Rattle.claims.specs.MachineWords.{product-fits}
-use Rattle.divisor.specs.Claims.{aimLimit}
-use Rattle.divisor.specs.Rounding.{whole-at-most, whole-counted, average-test}
+use Rattle.claims.specs.inner.DivisorClaims.{rounded}
+use Rattle.claims.specs.inner.MachineWords.{product-fits}
+use Rattle.divisor.specs.inner.Claims.{aimLimit}
+use Rattle.divisor.specs.inner.Rounding.{whole-at-most, whole-counted, average-test}
 use Rattle.divisor.proofs.rounding.rounded_of.Statement.{statement}
 use Rattle.divisor.proofs.rounding.rounded_of.Tie as tie
 

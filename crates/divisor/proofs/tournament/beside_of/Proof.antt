@@ -3,7 +3,7 @@
 use Prim.Native.Nat.{_%_}
 use borrow.Author.Tests.{eq-eqb, ne-eqb}
 use borrow.Author.Needs.{needs}
-use Rattle.claims.specs.TournamentReplay.{beside}
+use Rattle.claims.specs.inner.TournamentReplay.{beside}
 use Rattle.divisor.proofs.tournament.beside_of.Statement.{statement}
 use Rattle.divisor.proofs.tournament.beside_of.Tie as tie
 

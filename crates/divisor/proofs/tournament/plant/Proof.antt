@@ -4,7 +4,7 @@ use mathlib.Core.Path.{_≡_}
 use Prim.Native.Nat.{_≤_, _-_}
 use native.Mathlib.Omega.{arith}
 use borrow.Author.Needs.{needs}
-use Rattle.claims.specs.TournamentReplay.{Planted, planted-none, planted-more}
+use Rattle.claims.specs.inner.TournamentReplay.{Planted, planted-none, planted-more}
 use Rattle.divisor.proofs.tournament.plant.Statement.{statement}
 use Rattle.divisor.proofs.tournament.plant.Tie as tie
 

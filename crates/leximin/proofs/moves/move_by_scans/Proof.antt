@@ -6,7 +6,7 @@ use mathlib.Core.Path.{_≡_, sym, _∙_}
 use Prim.Native.Nat.{_≤_, _-_}
 use native.Mathlib.Omega.{arith}
 use native.Mathlib.Nat.{le-antisymm}
-use Rattle.leximin.specs.Moves.{movedTimes, none-moved, one-more-moved, moved-sided, movable-sided}
+use Rattle.leximin.specs.inner.Moves.{movedTimes, none-moved, one-more-moved, moved-sided, movable-sided}
 use Rattle.leximin.proofs.moves.move_by_scans.Statement.{statement}
 use Rattle.leximin.proofs.moves.move_by_scans.Tie as tie
 

@@ -1,7 +1,7 @@
 -- `leximin::moves::move_once` meets its contract: the direction picks the case of the definition.
 -- Assumes nothing.
 use mathlib.Core.Path.{_∙_}
-use Rattle.leximin.specs.Moves.{movedOnce}
+use Rattle.leximin.specs.inner.Moves.{movedOnce}
 use borrow.Author.Needs.{needs}
 use Rattle.leximin.proofs.moves.move_once.Statement.{statement}
 use Rattle.leximin.proofs.moves.move_once.Tie as tie

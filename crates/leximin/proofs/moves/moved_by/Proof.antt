@@ -1,6 +1,6 @@
 -- `leximin::moves::moved_by` meets its contract: the direction picks the case of the definition.
 -- Assumes nothing.
-use Rattle.leximin.specs.Moves.{movedBy}
+use Rattle.leximin.specs.inner.Moves.{movedBy}
 use borrow.Author.Needs.{needs}
 use Rattle.leximin.proofs.moves.moved_by.Statement.{statement}
 use Rattle.leximin.proofs.moves.moved_by.Tie as tie

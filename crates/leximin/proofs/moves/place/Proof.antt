@@ -3,8 +3,8 @@
 use native.Mathlib.Omega.{arith}
 use borrow.Author.Needs.{scaled-fits}
 use Rattle.apportionment.specs.Divisor.{oneMore}
-use Rattle.claims.specs.Order.{placed}
-use Rattle.leximin.specs.Moves.{unmet-inside}
+use Rattle.claims.specs.inner.Order.{placed}
+use Rattle.leximin.specs.inner.Moves.{unmet-inside}
 use borrow.Author.Needs.{needs}
 use Rattle.leximin.proofs.moves.place.Statement.{statement}
 use Rattle.leximin.proofs.moves.place.Tie as tie

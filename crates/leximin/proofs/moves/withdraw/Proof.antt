@@ -3,8 +3,8 @@
 -- Assumes nothing.
 use native.Mathlib.Omega.{arith}
 use borrow.Author.Needs.{scaled-fits}
-use Rattle.claims.specs.Order.{withdrawn, oneLess}
-use Rattle.leximin.specs.Moves.{met-inside}
+use Rattle.claims.specs.inner.Order.{withdrawn, oneLess}
+use Rattle.leximin.specs.inner.Moves.{met-inside}
 use borrow.Author.Needs.{needs}
 use Rattle.leximin.proofs.moves.withdraw.Statement.{statement}
 use Rattle.leximin.proofs.moves.withdraw.Tie as tie

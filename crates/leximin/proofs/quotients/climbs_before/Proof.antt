@@ -2,8 +2,8 @@
 -- order of claims at or above the start.
 -- Assumes nothing.
 use mathlib.Core.Path.{sym, _∙_}
-use Rattle.claims.specs.SizeQuotients.{climbsBefore}
-use Rattle.leximin.specs.Quotients.{climbs-compared}
+use Rattle.claims.specs.inner.SizeQuotients.{climbsBefore}
+use Rattle.leximin.specs.inner.Quotients.{climbs-compared}
 use borrow.Author.Needs.{needs}
 use Rattle.leximin.proofs.quotients.climbs_before.Statement.{statement}
 use Rattle.leximin.proofs.quotients.climbs_before.Tie as tie

@@ -4,9 +4,9 @@
 use mathlib.Core.Path.{_∙_}
 use native.Mathlib.Omega.{arith}
 use borrow.Author.Tests.{lt-ltb, le-ltb}
-use Rattle.claims.specs.SizeQuotients.{fallsBefore}
-use Rattle.leximin.specs.Quotients.{falls-compared, products-fit}
-use Rattle.leximin.specs.Sizes.{sizes-compared}
+use Rattle.claims.specs.inner.SizeQuotients.{fallsBefore}
+use Rattle.leximin.specs.inner.Quotients.{falls-compared, products-fit}
+use Rattle.leximin.specs.inner.Sizes.{sizes-compared}
 use borrow.Author.Needs.{needs}
 use Rattle.leximin.proofs.quotients.falls_before.Statement.{statement}
 use Rattle.leximin.proofs.quotients.falls_before.Tie as tie

@@ -1,7 +1,7 @@
 -- `leximin::quotients::rises` meets its contract: comparing the two sizes as they are held is comparing the exact ones.
 -- Assumes nothing.
 use mathlib.Core.Path.{_∙_}
-use Rattle.leximin.specs.Sizes.{sizes-compared}
+use Rattle.leximin.specs.inner.Sizes.{sizes-compared}
 use borrow.Author.Needs.{needs}
 use Rattle.leximin.proofs.quotients.rises.Statement.{statement}
 use Rattle.leximin.proofs.quotients.rises.Tie as tie

@@ -2,9 +2,9 @@
 -- Assumes nothing.
 use mathlib.Core.Path.{_∙_}
 use borrow.Author.Tests.{lt-ltb, le-ltb}
-use Rattle.claims.specs.SizeQuotients.{risesBefore}
-use Rattle.leximin.specs.Quotients.{products-fit}
-use Rattle.leximin.specs.Sizes.{sizes-compared}
+use Rattle.claims.specs.inner.SizeQuotients.{risesBefore}
+use Rattle.leximin.specs.inner.Quotients.{products-fit}
+use Rattle.leximin.specs.inner.Sizes.{sizes-compared}
 use native.Mathlib.Omega.{arith}
 use borrow.Author.Needs.{needs}
 use Rattle.leximin.proofs.quotients.rises_before.Statement.{statement}

@@ -1,7 +1,7 @@
 -- `leximin::scan::better` meets its contract: the test that was made picks the case of the definition.
 -- Assumes nothing.
 use mathlib.Core.Path.{sym, _∙_}
-use Rattle.leximin.specs.Scan.{betterOf}
+use Rattle.leximin.specs.inner.Scan.{betterOf}
 use borrow.Author.Needs.{needs}
 use Rattle.leximin.proofs.scan.better.Statement.{statement}
 use Rattle.leximin.proofs.scan.better.Tie as tie

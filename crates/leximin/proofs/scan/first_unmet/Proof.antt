@@ -8,10 +8,10 @@ use Prim.Native.Nat.{_<_, _≤_, _-_}
 use lib.ListN.{length}
 use native.Mathlib.Omega.{arith}
 use Rattle.apportionment.specs.Lists.{firstPlace}
-use Rattle.claims.specs.Order.{wantsBefore, firstUnmet}
-use Rattle.claims.specs.SizeClaims.{sizeTest}
-use Rattle.leximin.specs.Scan.{CandidateIs, better-next}
-use Rattle.leximin.specs.Sizes.{counted, measured}
+use Rattle.claims.specs.inner.Order.{wantsBefore, firstUnmet}
+use Rattle.claims.specs.inner.SizeClaims.{sizeTest}
+use Rattle.leximin.specs.inner.Scan.{CandidateIs, better-next}
+use Rattle.leximin.specs.inner.Sizes.{counted, measured}
 use Rattle.leximin.proofs.scan.first_unmet.Statement.{statement}
 use Rattle.leximin.proofs.scan.first_unmet.Tie as tie
 

@@ -1,7 +1,7 @@
 -- `leximin::scan::prefer` meets its contract: the tests that were made pick the case of the definition.
 -- Assumes nothing.
 use mathlib.Core.Path.{sym, _∙_}
-use Rattle.leximin.specs.Scan.{preferOf}
+use Rattle.leximin.specs.inner.Scan.{preferOf}
 use borrow.Author.Needs.{needs}
 use Rattle.leximin.proofs.scan.prefer.Statement.{statement}
 use Rattle.leximin.proofs.scan.prefer.Tie as tie

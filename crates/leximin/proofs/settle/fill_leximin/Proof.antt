@@ -1,7 +1,7 @@
 -- `leximin::settle::fill_leximin` meets its contract: the start is filled in, its total is added up, and as many seats are placed or
 -- withdrawn as the gap has; the laws of `Settled` say where that ends.
 -- Assumes nothing.
-use Rattle.leximin.specs.Settled.{can-place, can-withdraw, placed-settled, withdrawn-settled}
+use Rattle.leximin.specs.inner.Settled.{can-place, can-withdraw, placed-settled, withdrawn-settled}
 use borrow.Author.Needs.{needs}
 use Rattle.leximin.proofs.settle.fill_leximin.Statement.{statement}
 use Rattle.leximin.proofs.settle.fill_leximin.Tie as tie

@@ -1,7 +1,7 @@
 -- `leximin::sizes::first_then` meets its contract: the tests that were made pick the case of the definition.
 -- Assumes nothing.
 use mathlib.Core.Path.{sym, _∙_}
-use Rattle.leximin.specs.Sizes.{firstThen}
+use Rattle.leximin.specs.inner.Sizes.{firstThen}
 use borrow.Author.Needs.{needs}
 use Rattle.leximin.proofs.sizes.first_then.Statement.{statement}
 use Rattle.leximin.proofs.sizes.first_then.Tie as tie

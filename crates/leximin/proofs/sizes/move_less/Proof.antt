@@ -1,7 +1,7 @@
 -- `leximin::sizes::move_less` meets its contract: the tests that were made pick the case of the order of claims.
 -- Assumes nothing.
 use mathlib.Core.Path.{sym, _∙_}
-use Rattle.leximin.specs.Sizes.{lessMove}
+use Rattle.leximin.specs.inner.Sizes.{lessMove}
 use borrow.Author.Needs.{needs}
 use Rattle.leximin.proofs.sizes.move_less.Statement.{statement}
 use Rattle.leximin.proofs.sizes.move_less.Tie as tie

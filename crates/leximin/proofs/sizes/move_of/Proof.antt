@@ -1,6 +1,6 @@
 -- `leximin::sizes::move_of` meets its contract: the two sizes are those with the seats that the state has and with one more.
 -- Assumes nothing.
-use Rattle.leximin.specs.Sizes.{move-is}
+use Rattle.leximin.specs.inner.Sizes.{move-is}
 use borrow.Author.Needs.{needs}
 use Rattle.leximin.proofs.sizes.move_of.Statement.{statement}
 use Rattle.leximin.proofs.sizes.move_of.Tie as tie

@@ -2,8 +2,8 @@
 -- Assumes nothing.
 use borrow.Author.Needs.{needs}
 use Rattle.apportionment.specs.Limits.{houseLimit, sumLimit}
-use Rattle.claims.specs.MachineWords.{product-fits}
-use Rattle.leximin.specs.Sizes.{lessSize}
+use Rattle.claims.specs.inner.MachineWords.{product-fits}
+use Rattle.leximin.specs.inner.Sizes.{lessSize}
 use Prim.Native.Nat.{_+_, _*_}
 use Rattle.leximin.proofs.sizes.size_less.Statement.{statement}
 use Rattle.leximin.proofs.sizes.size_less.Tie as tie

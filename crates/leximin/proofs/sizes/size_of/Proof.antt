@@ -1,8 +1,8 @@
 -- `leximin::sizes::size_of` meets its contract: the products fit, since population, seats, sum and house are within their limits.
 -- Assumes nothing.
-use Rattle.leximin.specs.Sizes.{size-is}
+use Rattle.leximin.specs.inner.Sizes.{size-is}
 use Rattle.apportionment.specs.Limits.{houseLimit, sumLimit}
-use Rattle.claims.specs.MachineWords.{product-fits}
+use Rattle.claims.specs.inner.MachineWords.{product-fits}
 use native.Mathlib.Nat.{le-trans}
 use Prim.Native.Nat.{_+_}
 use borrow.Author.Needs.{needs}

@@ -6,9 +6,9 @@ use native.Mathlib.Omega.{arith}
 use native.Mathlib.Nat.{le-trans}
 use borrow.Author.Tests.{eq-eqb, ne-eqb}
 use Rattle.apportionment.specs.Limits.{houseLimit, sumLimit}
-use Rattle.claims.specs.SizeClaims.{nearestRounded}
-use Rattle.claims.specs.MachineWords.{product-fits}
-use Rattle.leximin.specs.Sizes.{whole-at-most-house, measured, size-order-kept}
+use Rattle.claims.specs.inner.SizeClaims.{nearestRounded}
+use Rattle.claims.specs.inner.MachineWords.{product-fits}
+use Rattle.leximin.specs.inner.Sizes.{whole-at-most-house, measured, size-order-kept}
 use borrow.Author.Needs.{needs}
 use Rattle.leximin.proofs.start.nearest_seats.Statement.{statement}
 use Rattle.leximin.proofs.start.nearest_seats.Tie as tie

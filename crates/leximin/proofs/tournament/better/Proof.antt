@@ -2,7 +2,7 @@
 -- Assumes nothing.
 use mathlib.Core.Path.{sym, _∙_}
 use borrow.Author.Tests.{lt-ltb, le-ltb}
-use Rattle.claims.specs.Tournament.{better}
+use Rattle.claims.specs.inner.Tournament.{better}
 use borrow.Author.Needs.{needs}
 use Rattle.leximin.proofs.tournament.better.Statement.{statement}
 use Rattle.leximin.proofs.tournament.better.Tie as tie

@@ -6,8 +6,8 @@ use mathlib.Core.Path.{_≡_, sym, _∙_}
 use Prim.Native.Nat.{_<_}
 use lib.ListN.{length}
 use native.Mathlib.Omega.{arith}
-use Rattle.claims.specs.TournamentReplay.{Building, building-none, building-next, building-more, built}
-use Rattle.leximin.specs.Tournament.{movesBefore}
+use Rattle.claims.specs.inner.TournamentReplay.{Building, building-none, building-next, building-more, built}
+use Rattle.leximin.specs.inner.Tournament.{movesBefore}
 use Rattle.leximin.proofs.tournament.build.Statement.{statement}
 use Rattle.leximin.proofs.tournament.build.Tie as tie
 

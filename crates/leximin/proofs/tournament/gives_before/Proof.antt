@@ -2,9 +2,9 @@
 -- seat to spare are at or below their starts, so their last claims can be compared by quotients.
 -- Assumes nothing.
 use borrow.Author.Tests.{lt-ltb, le-ltb}
-use Rattle.claims.specs.Order.{givesUpBefore}
-use Rattle.claims.specs.SizeClaims.{sizeTest}
-use Rattle.leximin.specs.Quotients.{falling}
+use Rattle.claims.specs.inner.Order.{givesUpBefore}
+use Rattle.claims.specs.inner.SizeClaims.{sizeTest}
+use Rattle.leximin.specs.inner.Quotients.{falling}
 use borrow.Author.Needs.{needs}
 use Rattle.leximin.proofs.tournament.gives_before.Statement.{statement}
 use Rattle.leximin.proofs.tournament.gives_before.Tie as tie

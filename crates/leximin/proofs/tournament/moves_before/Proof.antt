@@ -1,7 +1,7 @@
 -- `leximin::tournament::moves_before` meets its contract: the direction picks the order.
 -- Assumes nothing.
 use mathlib.Core.Path.{_∙_}
-use Rattle.leximin.specs.Tournament.{movesBefore}
+use Rattle.leximin.specs.inner.Tournament.{movesBefore}
 use Rattle.leximin.proofs.tournament.moves_before.Statement.{statement}
 use Rattle.leximin.proofs.tournament.moves_before.Tie as tie
 

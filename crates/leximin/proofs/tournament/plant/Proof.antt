@@ -5,7 +5,7 @@ use mathlib.Core.Path.{sym, _∙_}
 use Prim.Native.Nat.{_≤_, _-_}
 use native.Mathlib.Omega.{arith}
 use native.Mathlib.Nat.{le-antisymm}
-use Rattle.claims.specs.TournamentReplay.{Planted, planted-none, planted-more}
+use Rattle.claims.specs.inner.TournamentReplay.{Planted, planted-none, planted-more}
 use Rattle.leximin.proofs.tournament.plant.Statement.{statement}
 use Rattle.leximin.proofs.tournament.plant.Tie as tie
 

@@ -6,8 +6,8 @@ use mathlib.Core.Path.{_≡_, sym, _∙_}
 use Prim.Native.Nat.{_<_}
 use lib.ListN.{length}
 use native.Mathlib.Omega.{arith}
-use Rattle.claims.specs.TournamentReplay.{Replaying, replaying-next, replaying-more, replayed}
-use Rattle.leximin.specs.Tournament.{movesBefore}
+use Rattle.claims.specs.inner.TournamentReplay.{Replaying, replaying-next, replaying-more, replayed}
+use Rattle.leximin.specs.inner.Tournament.{movesBefore}
 use Rattle.leximin.proofs.tournament.replay.Statement.{statement}
 use Rattle.leximin.proofs.tournament.replay.Tie as tie
 

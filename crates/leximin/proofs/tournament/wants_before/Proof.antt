@@ -1,9 +1,9 @@
 -- `leximin::tournament::wants_before` meets its contract: both states are at or above their starts, so their next claims can be compared
 -- by quotients.
 -- Assumes nothing.
-use Rattle.claims.specs.Order.{wantsBefore}
-use Rattle.claims.specs.SizeClaims.{sizeTest}
-use Rattle.leximin.specs.Quotients.{climbing}
+use Rattle.claims.specs.inner.Order.{wantsBefore}
+use Rattle.claims.specs.inner.SizeClaims.{sizeTest}
+use Rattle.leximin.specs.inner.Quotients.{climbing}
 use borrow.Author.Needs.{needs}
 use Rattle.leximin.proofs.tournament.wants_before.Statement.{statement}
 use Rattle.leximin.proofs.tournament.wants_before.Tie as tie

@@ -1,6 +1,6 @@
 -- `listing::rows::put_head` meets its contract: its pieces, one after the other.
 -- Assumes nothing.
-use Rattle.text.specs.Writing.{wrote-then}
+use Rattle.text.specs.inner.Writing.{wrote-then}
 use Rattle.listing.specs.Listing.{headLine}
 use borrow.Author.Needs.{needs}
 use Rattle.listing.proofs.rows.put_head.Statement.{statement}

@@ -9,7 +9,8 @@ use mathlib.Core.Path.{_≡_, refl}
 use Prim.Native.Nat.{_≤_, _-_}
 use native.Mathlib.Omega.{arith}
 use lib.ListN.{length}
-use Rattle.text.specs.Writing.{Wrote, wrote-then, wrote-length}
+use Rattle.text.specs.Writing.{Wrote}
+use Rattle.text.specs.inner.Writing.{wrote-then, wrote-length}
 use Rattle.listing.specs.Listing.{stateLines}
 use Rattle.listing.proofs.rows.put_states.Statement.{statement}
 use Rattle.listing.proofs.rows.put_states.Tie as tie

@@ -3,7 +3,7 @@
 use mathlib.Core.Path.{sym, _∙_}
 use borrow.Author.Tests.{eq-eqb, ne-eqb}
 use Rattle.placing.specs.Placing.{openedOf, refusedWith}
-use Rattle.placing.specs.Telling.{opened-parts}
+use Rattle.placing.specs.inner.Telling.{opened-parts}
 use borrow.Author.Needs.{needs}
 use Rattle.placing.proofs.Placing.open.Statement.{statement}
 use Rattle.placing.proofs.Placing.open.Tie as tie

@@ -3,7 +3,7 @@
 use mathlib.Core.Path.{sym, _∙_}
 use borrow.Author.Tests.{eq-eqb, ne-eqb}
 use Rattle.placing.specs.Placing.{steppedOf, refusedWith}
-use Rattle.placing.specs.Telling.{genuine-facts}
+use Rattle.placing.specs.inner.Telling.{genuine-facts}
 use borrow.Author.Needs.{needs}
 use Rattle.placing.proofs.Placing.step.Statement.{statement}
 use Rattle.placing.proofs.Placing.step.Tie as tie

@@ -1,6 +1,6 @@
 -- `placing::genuine::is_genuine` meets its contract: a test that fails is one that no genuine placing fails, and a placing that passes them all is genuine (`Telling`).
 -- Assumes nothing.
-use Rattle.placing.specs.Telling.{same-first, last-test}
+use Rattle.placing.specs.inner.Telling.{same-first, last-test}
 use mathlib.Core.Path.{_≡_, sym, _∙_}
 use mathlib.Core.Bool.{false≢true}
 use native.Mathlib.Omega.{arith}
@@ -8,7 +8,7 @@ use lib.ListN.{length}
 use lib.Seq.{length-take-le}
 use Rattle.apportionment.specs.Limits.{stateLimit}
 use Rattle.placing.specs.Placing.{genuine, peopleOf}
-use Rattle.placing.specs.Telling.{not-genuine, opened-parts}
+use Rattle.placing.specs.inner.Telling.{not-genuine, opened-parts}
 use borrow.Author.Needs.{needs}
 use Rattle.placing.proofs.genuine.is_genuine.Statement.{statement}
 use Rattle.placing.proofs.genuine.is_genuine.Tie as tie

@@ -2,7 +2,7 @@
 -- Assumes nothing.
 use mathlib.Core.Path.{sym, _∙_}
 use borrow.Author.Tests.{eq-eqb, ne-eqb}
-use Rattle.placing.specs.Genuine.{seatsAgree, seats-seated}
+use Rattle.placing.specs.inner.Genuine.{seatsAgree, seats-seated}
 use borrow.Author.Needs.{needs}
 use Rattle.placing.proofs.genuine.seats_agree.Statement.{statement}
 use Rattle.placing.proofs.genuine.seats_agree.Tie as tie

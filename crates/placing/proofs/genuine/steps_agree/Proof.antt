@@ -1,7 +1,7 @@
 -- `placing::genuine::steps_agree` meets its contract: the two ways from the start, up and down, are the two cases of the definition.
 -- Assumes nothing.
 use borrow.Author.Tests.{le-leb, lt-leb}
-use Rattle.placing.specs.Genuine.{steps-up, steps-down}
+use Rattle.placing.specs.inner.Genuine.{steps-up, steps-down}
 use borrow.Author.Needs.{needs}
 use Rattle.placing.proofs.genuine.steps_agree.Statement.{statement}
 use Rattle.placing.proofs.genuine.steps_agree.Tie as tie

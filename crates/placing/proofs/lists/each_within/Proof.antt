@@ -4,7 +4,7 @@ use borrow.Author.Needs.{needs}
 use Prim.Native.Nat.{_-_}
 use mathlib.Core.Path.{_≡_, refl, sym, _∙_}
 use lib.ListN.{length, drop}
-use Rattle.placing.specs.Lists.{eachWithin, within-next, beyond-found, within-end, within-yes, zero-not-within, beyond-not-within}
+use Rattle.placing.specs.inner.Lists.{eachWithin, within-next, beyond-found, within-end, within-yes, zero-not-within, beyond-not-within}
 use Rattle.placing.proofs.lists.each_within.Statement.{statement}
 use Rattle.placing.proofs.lists.each_within.Tie as tie
 

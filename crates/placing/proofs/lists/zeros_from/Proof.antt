@@ -5,7 +5,7 @@ use Prim.Native.Nat.{_-_}
 use mathlib.Core.Path.{_≡_, sym, _∙_}
 use mathlib.Core.Bool.{_&&_}
 use lib.ListN.{length, drop}
-use Rattle.placing.specs.Lists.{allZero, zeros-step, zeros-end}
+use Rattle.placing.specs.inner.Lists.{allZero, zeros-step, zeros-end}
 use Rattle.placing.proofs.lists.zeros_from.Statement.{statement}
 use Rattle.placing.proofs.lists.zeros_from.Tie as tie
 

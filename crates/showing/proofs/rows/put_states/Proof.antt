@@ -8,7 +8,8 @@ use borrow.Author.Needs.{needs}
 use lib.ListN.{length}
 use Rattle.register.specs.Names.{linesAfter, lines-next}
 use Rattle.showing.specs.Work.{stateLines, state-lines-more}
-use Rattle.text.specs.Writing.{Wrote, wrote-then, wrote-length}
+use Rattle.text.specs.Writing.{Wrote}
+use Rattle.text.specs.inner.Writing.{wrote-then, wrote-length}
 use Rattle.showing.proofs.rows.put_states.Statement.{statement}
 use Rattle.showing.proofs.rows.put_states.Tie as tie
 

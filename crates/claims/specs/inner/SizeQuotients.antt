@@ -1,0 +1,152 @@
+-- Leximin's claims by quotients. At or above a state's start no claim falls, and rising claims come in the order of p / (a + 1); below it
+-- every claim falls, and claims come in the order of p / a. So two products part most claims, and sizes only those of equal quotients.
+-- Assumes nothing.
+use mathlib.Core.Path.{_≡_, refl, _∙_}
+use mathlib.Core.Bool.{Bool, true, false, cond}
+use mathlib.Core.Logic.{⊎-elim}
+use Prim.Native.Nat.{ℕ, suc, _+_, _*_, _<_, _≤_, suc-le-suc, zero-le}
+use native.Mathlib.Nat.{mul-pos, mul-lt-mul-of-pos-right, mul-le-mul-right, lt-of-mul-lt-mul-right}
+use native.Mathlib.Nat.{le-trans, le-of-lt, lt-suc-self, eq-or-lt-of-le}
+use native.Mathlib.Omega.{arith}
+use native.Mathlib.Numerals.{add-one}
+use lib.Dec.{ltb}
+use borrow.Author.Tests.{lt-ltb, ltb-true, ltb-false}
+use Rattle.apportionment.specs.Quantities.{less, distance, sizeOf}
+use Rattle.claims.specs.inner.Fractions.{less-asymmetric}
+use Rattle.claims.specs.inner.SizeClaims.{moveBefore, sizeBefore}
+use Rattle.claims.specs.inner.StartNearest.{nearer, Nearest, nearest-below, nearest-above}
+use Rattle.claims.specs.inner.SizeShape.{le-or-lt, size-falls, size-rises}
+
+-- ---- products compared
+
+-- Two tests that hold of the same numbers are the same test.
+same-test : (x y u v : ℕ) → (x < y → u < v) → (u < v → x < y) → ltb x y ≡ ltb u v
+same-test x y u v to from = by-test (ltb x y) refl
+  where
+    by-test : (t : Bool) → ltb x y ≡ t → ltb x y ≡ ltb u v
+    by-test true e = rw e (rw (lt-ltb u v (to (ltb-true x y e))))
+    by-test false e = rw e (by-other (ltb u v) refl)
+      where
+        by-other : (t : Bool) → ltb u v ≡ t → false ≡ ltb u v
+        by-other true f = absurd (omega (arith, ltb-false x y e, from (ltb-true u v f)))
+        by-other false f = rw f
+
+-- Of m without u and n without v: the products with what is left out are compared as those with what is left.
+left-over-test : (x y m n u v : ℕ) → u + x ≡ m → v + y ≡ n → ltb (u * n) (v * m) ≡ ltb (y * m) (x * n)
+left-over-test x y m n u v e f =
+    rw (← e, ← f) (same-test (u * (v + y)) (v * (u + x)) (y * (u + x)) (x * (v + y)) (λ h. omega arith) (λ h. omega arith))
+
+too-much-test : (x y m n u v : ℕ) → u + m ≡ x → v + n ≡ y → ltb (v * m) (u * n) ≡ ltb (y * m) (x * n)
+too-much-test x y m n u v e f =
+    rw (← e, ← f) (same-test (v * m) (u * n) ((v + n) * m) ((u + m) * n) (λ h. omega arith) (λ h. omega arith))
+
+-- A common factor leaves an order as it is.
+quotient-test : (p a q b P H : ℕ) → 0 < P → 0 < H → ltb (q * H * (a * P)) (p * H * (b * P)) ≡ ltb (q * a) (p * b)
+quotient-test p a q b P H z w =
+    same-test (q * H * (a * P)) (p * H * (b * P)) (q * a) (p * b) (λ h. lt-of-mul-lt-mul-right (H * P) (omega arith))
+    (λ h. omega (arith, mul-lt-mul-of-pos-right h (mul-pos w z)))
+
+distance-up : (x y : ℕ) → x ≤ y → distance x y + x ≡ y
+unfolding distance
+distance-up x y h = omega arith
+
+distance-down : (x y : ℕ) → y ≤ x → distance x y + y ≡ x
+unfolding distance
+distance-down x y h = omega arith
+
+-- Sizes with too many seats are in the order of the larger quotient, and sizes with too few in that of the smaller one.
+module _ (p a q b P H : ℕ) (z : 0 < P) (w : 0 < H) where
+  sizes-above : p * H ≤ a * P → q * H ≤ b * P → less (sizeOf p a P H) (sizeOf q b P H) ≡ ltb (q * a) (p * b)
+  unfolding less sizeOf
+  sizes-above h k =
+      left-over-test (p * H) (q * H) (a * P) (b * P) (distance (p * H) (a * P)) (distance (q * H) (b * P))
+      (distance-up (p * H) (a * P) h) (distance-up (q * H) (b * P) k) ∙ quotient-test p a q b P H z w
+
+  sizes-below : a * P ≤ p * H → b * P ≤ q * H → less (sizeOf q b P H) (sizeOf p a P H) ≡ ltb (q * a) (p * b)
+  unfolding less sizeOf
+  sizes-below h k =
+      too-much-test (p * H) (q * H) (a * P) (b * P) (distance (p * H) (a * P)) (distance (q * H) (b * P))
+      (distance-down (p * H) (a * P) h) (distance-down (q * H) (b * P) k) ∙ quotient-test p a q b P H z w
+
+-- ---- claims at or above the start, and below it
+
+-- A claim at or above the start: it does not fall, and with its seat the state has too many.
+pub record Climbs (p P H a : ℕ) : Type 0 where
+  pub stays : nearer p P H (suc a) a ≡ false
+  pub past : p * H ≤ suc a * P
+
+-- A claim below the start: it falls, and without its seat the state has too few.
+pub record Falls (p P H a : ℕ) : Type 0 where
+  pub nears : nearer p P H (suc a) a ≡ true
+  pub short : a * P ≤ p * H
+
+module _ (p P H x : ℕ) (y : 0 < p) (z : 0 < P) (w : 0 < H) (n : Nearest p P H x) where
+  pub climbs-from-start : (a : ℕ) → x ≤ a → Climbs p P H a
+  climbs-from-start a h =
+      record {
+        stays = ⊎-elim above below (le-or-lt (p * H) (a * P));
+        past = omega (arith, nearest-above p P H y z w x n, mul-le-mul-right P h);
+      }
+    where
+      above : p * H ≤ a * P → nearer p P H (suc a) a ≡ false
+      above k = less-asymmetric _ _ (size-rises p P H a (suc a) y z w k (lt-suc-self a))
+
+      below : a * P < p * H → nearer p P H (suc a) a ≡ false
+      below k =
+          ⊎-elim (λ e. rw (← e) (n .least (suc x) (suc-le-suc zero-le)))
+          (λ l. cc (n .least a (le-trans (n .some) h), size-falls p P H x a z l (le-of-lt k)))
+          (eq-or-lt-of-le h)
+
+  pub falls-to-start : (a : ℕ) → 1 ≤ a → a < x → Falls p P H a
+  falls-to-start a some h = record { nears = ⊎-elim last earlier (eq-or-lt-of-le h); short = omega (arith, few, mul-le-mul-right P h) }
+    where
+      few : x * P < p * H + P
+      few = nearest-below p P H y z w x n
+
+      last : suc a ≡ x → nearer p P H (suc a) a ≡ true
+      last e = rw e (n .fewest a some h)
+
+      earlier : suc a < x → nearer p P H (suc a) a ≡ true
+      earlier l = size-falls p P H a (suc a) z (lt-suc-self a) (omega (arith, few, mul-le-mul-right P l))
+
+-- ---- their order
+
+-- Rising claims: the larger p / (a + 1) first and, of equal ones, the larger present size.
+unfoldable pub risesBefore : (P H p a q b : ℕ) → Bool
+risesBefore P H p a q b =
+    cond (ltb (q * (a + 1)) (p * (b + 1))) true (cond (ltb (p * (b + 1)) (q * (a + 1))) false (less (sizeOf q b P H) (sizeOf p a P H)))
+
+-- Level claims come first, then rising ones.
+unfoldable pub climbsBefore : (P H p a q b : ℕ) → Bool
+climbsBefore P H p a q b =
+    cond (less (sizeOf p a P H) (sizeOf p (a + 1) P H))
+    (cond (less (sizeOf q b P H) (sizeOf q (b + 1) P H)) (risesBefore P H p a q b) false)
+    (less (sizeOf q b P H) (sizeOf q (b + 1) P H))
+
+-- The larger p / a first and, of equal ones, the smaller new size.
+unfoldable pub fallsBefore : (P H p a q b : ℕ) → Bool
+fallsBefore P H p a q b =
+    cond (ltb (q * a) (p * b)) true (cond (ltb (p * b) (q * a)) false (less (sizeOf p (a + 1) P H) (sizeOf q (b + 1) P H)))
+
+module _ {P H : ℕ} (z : 0 < P) (w : 0 < H) (p a q b : ℕ) where
+  pub climbs-by-quotient : Climbs p P H a → Climbs q P H b → sizeBefore P H p a q b ≡ climbsBefore P H p a q b
+  unfolding sizeBefore moveBefore climbsBefore risesBefore
+  climbs-by-quotient c d =
+      simp (
+        c .stays,
+        d .stays,
+        sizes-above p (suc a) q (suc b) P H z w (c .past) (d .past),
+        sizes-above q (suc b) p (suc a) P H z w (d .past) (c .past),
+        add-one,
+      )
+
+  pub falls-by-quotient : Falls p P H a → Falls q P H b → sizeBefore P H p a q b ≡ fallsBefore P H p a q b
+  unfolding sizeBefore moveBefore fallsBefore
+  falls-by-quotient c d =
+      simp (
+        c .nears,
+        d .nears,
+        sizes-below p a q b P H z w (c .short) (d .short),
+        sizes-below q b p a P H z w (d .short) (c .short),
+        add-one,
+      )

@@ -1,0 +1,182 @@
+-- What the moves ask, and that it holds again after a move.
+-- Assumes nothing.
+use mathlib.Core.Path.{_≡_, refl, _∙_}
+use mathlib.Core.Bool.{Bool, true, false, cond}
+use mathlib.Core.List.{List}
+use mathlib.Core.Logic.{⊎-elim}
+use Prim.Native.Nat.{ℕ, zero, suc, _+_, _-_, _<_, _≤_, zero-le}
+use native.Mathlib.Omega.{arith}
+use native.Mathlib.Nat.{le-refl, le-trans}
+use native.Mathlib.Numerals.{add-one}
+use lib.ListN.{length, getD, set}
+use Rattle.apportionment.specs.Divisor.{oneMore}
+use Rattle.apportionment.specs.Limits.{houseLimit}
+use Rattle.apportionment.specs.Lists.{sum, firstPlace}
+use Rattle.apportionment.specs.inner.Lists.{entry-at-most-sum}
+use Rattle.apportionment.specs.Leximin.{startSeats}
+use Rattle.claims.specs.inner.Order.{ClaimTest, firstUnmet, lastMet, placed, placedTimes, oneLess, withdrawn, withdrawnTimes}
+use Rattle.claims.specs.inner.Standing.{firstUnmet-lt, lastMet-lt, length-placedTimes, sum-placedTimes, placedTimes-standing}
+use Rattle.claims.specs.inner.Standing.{length-withdrawnTimes, withdrawnTimes-standing}
+use Rattle.claims.specs.inner.StandingMoves.{sum-listOf-one, at-oneMore}
+use Rattle.claims.specs.inner.StartSeats.{length-start, start-at, start-standing}
+use Rattle.claims.specs.inner.DivisorSeats.{withdrawn-at-most}
+use Rattle.claims.specs.inner.SizeClaims.{Sound, sizeTest, oneEach}
+use Rattle.claims.specs.inner.SizeOrder.{size-order}
+use Rattle.claims.specs.inner.Tournament.{winner-lt, root-is-first}
+use Rattle.claims.specs.inner.TournamentReplay.{replaying-start}
+use Rattle.leximin.specs.inner.Scan.{Workable}
+use Rattle.leximin.specs.inner.Start.{Ready, ready-sound, ready-counts, start-workable}
+use Rattle.leximin.specs.inner.Quotients.{Side, Sided}
+use Rattle.leximin.specs.inner.Tournament.{movesBefore, Champions, Moved, moves-pass, moves-agree}
+
+-- One seat moved: placed where `up` is true, and withdrawn otherwise.
+unfoldable pub movedOnce : (up : Bool) (ps : List ℕ) (H : ℕ) (xs : List ℕ) → List ℕ
+movedOnce up ps H xs = cond up (placed (sizeTest ps H) (length ps) xs) (withdrawn oneEach (sizeTest ps H) (length ps) xs)
+
+-- So many seats moved.
+unfoldable pub movedTimes : (up : Bool) (ps : List ℕ) (H : ℕ) (xs : List ℕ) (k : ℕ) → List ℕ
+movedTimes up ps H xs k =
+    cond up (placedTimes (sizeTest ps H) (length ps) xs k) (withdrawnTimes oneEach (sizeTest ps H) (length ps) xs k)
+
+-- A state's seats after its move.
+unfoldable pub movedBy : (up : Bool) → ℕ → ℕ
+movedBy up x = cond up (x + 1) (x - 1)
+
+-- So many can be placed if the largest house has room for them, and withdrawn if one is left for each state.
+abbrev pub Room : (up : Bool) (n : ℕ) (xs : List ℕ) (times : ℕ) → Type 0
+Room true n xs times = sum xs + times ≤ houseLimit
+Room false n xs times = n + times ≤ sum xs
+
+-- The start, of which so many seats can be moved.
+pub record Movable (up : Bool) (ps xs : List ℕ) (P H times : ℕ) : Type 0 where
+  pub ready : Ready ps P H
+  pub begun : xs ≡ startSeats ps H
+  pub room : Room up (length ps) xs times
+
+-- Placing takes no seat from a state.
+placed-at-least : (lt : ClaimTest) (n : ℕ) (xs : List ℕ) → 0 < n → length xs ≡ n → (k i : ℕ)
+    → getD xs i 0 ≤ getD (placedTimes lt n xs k) i 0
+unfolding placedTimes placed
+placed-at-least lt n xs some states zero i = le-refl (getD xs i 0)
+placed-at-least lt n xs some states (suc k) i =
+    let ys = placedTimes lt n xs k in
+    let inside : firstUnmet lt n ys < length ys = rw (length-placedTimes n lt xs k ∙ states) (firstUnmet-lt n lt ys some) in
+    let before = placed-at-least lt n xs some states k i in
+    ⊎-elim (λ h. omega (arith, h .1, before)) (λ h. omega (arith, h .1, before)) (at-oneMore ys (firstUnmet lt n ys) i inside)
+
+-- ---- each move leaves seats that a move can be made with
+
+module _ {ps : List ℕ} {P H : ℕ} (r : Ready ps P H) where
+  abbrev n : ℕ
+  n = length ps
+
+  abbrev lt : ClaimTest
+  lt = sizeTest ps H
+
+  abbrev start : List ℕ
+  start = startSeats ps H
+
+  s : Sound ps H
+  s = ready-sound r
+
+  sided : (up : Bool) {xs : List ℕ} → length xs ≡ n → ((i : ℕ) → getD xs i 0 ≤ houseLimit) → ((i : ℕ) → i < n → 1 ≤ getD xs i 0)
+      → ((i : ℕ) → Side up (getD start i 0) (getD xs i 0)) → Sided up ps xs P H
+  sided up states fit least side =
+      record {
+        seated =
+            record {
+              workable = record { counts = ready-counts r; someState = s .someState; states = states; seatsFit = fit };
+              least = least;
+            };
+        sound = s;
+        few = r .problem .statesWithin;
+        side = λ i inside. rw (← start-at ps H i inside) (side i);
+      }
+
+  placed-sided : (k : ℕ) → sum start + k ≤ houseLimit → Sided true ps (placedTimes lt n start k) P H
+  placed-sided k room =
+      sided true (length-placedTimes n lt start k ∙ length-start ps H)
+      (λ i. le-trans (entry-at-most-sum (placedTimes lt n start k) i)
+      (rw (sum-placedTimes n lt start k (s .someState) (length-start ps H)) room))
+      (placedTimes-standing n oneEach lt (size-order s) start k (s .someState) (start-standing s) .least)
+      (placed-at-least lt n start (s .someState) (length-start ps H) k)
+
+  withdrawn-sided : (k : ℕ) → n + k ≤ sum start → Sided false ps (withdrawnTimes oneEach lt n start k) P H
+  withdrawn-sided k room =
+      sided false (length-withdrawnTimes n oneEach lt start k ∙ length-start ps H)
+      (λ i. le-trans (withdrawn-at-most oneEach lt n start k i) (start-workable r .seatsFit i))
+      (withdrawnTimes-standing n oneEach lt (size-order s) start k (s .someState) (start-standing s) (rw (sum-listOf-one n) room) .least)
+      (withdrawn-at-most oneEach lt n start k)
+
+pub moved-sided : {ps xs : List ℕ} {P H times : ℕ} (up : Bool) → Movable up ps xs P H times → (k : ℕ) → k ≤ times
+    → Sided up ps (movedTimes up ps H xs k) P H
+unfolding movedTimes
+moved-sided true m k h = rw (m .begun) (placed-sided (m .ready) k (omega (arith, rw (m .begun) at (m .room))))
+moved-sided false m k h = rw (m .begun) (withdrawn-sided (m .ready) k (omega (arith, rw (m .begun) at (m .room))))
+
+-- ---- moves by a tournament
+
+-- So many moves from xs₀ are made, and the tournament is right for the seats as they are.
+pub record Moving (up : Bool) (ps xs₀ : List ℕ) (H done : ℕ) (xs t : List ℕ) : Type 0 where
+  pub seats : xs ≡ movedTimes up ps H xs₀ done
+  pub winners : Champions up ps H xs t
+
+pub none-moved : (up : Bool) (ps : List ℕ) (H : ℕ) (xs : List ℕ) → xs ≡ movedTimes up ps H xs 0
+unfolding movedTimes placedTimes withdrawnTimes
+none-moved true ps H xs = refl
+none-moved false ps H xs = refl
+
+pub movable-sided : {up : Bool} {ps xs : List ℕ} {P H times : ℕ} → Movable up ps xs P H times → Sided up ps xs P H
+movable-sided {up} {ps} {xs} {P} {H} m = rw (none-moved up ps H xs) (moved-sided up m 0 zero-le)
+
+pub one-more-moved : (up : Bool) (ps : List ℕ) (H : ℕ) (xs : List ℕ) (k : ℕ)
+    → movedTimes up ps H xs (k + 1) ≡ movedOnce up ps H (movedTimes up ps H xs k)
+unfolding movedTimes movedOnce placedTimes withdrawnTimes
+one-more-moved true ps H xs k = rw (add-one k)
+one-more-moved false ps H xs k = rw (add-one k)
+
+-- A move is one by the state that a scan picks.
+moved-by-first : (up : Bool) (ps : List ℕ) (H : ℕ) (xs : List ℕ)
+    → let j = firstPlace (movesBefore up ps H xs) (length ps - 1) in
+    movedOnce up ps H xs ≡ set xs j (movedBy up (getD xs j 0))
+unfolding movedOnce movedBy movesBefore placed oneMore firstUnmet withdrawn oneLess lastMet
+moved-by-first true ps H xs = refl
+moved-by-first false ps H xs = refl
+
+module _ {up : Bool} {ps xs₀ xs t : List ℕ} {P H times done : ℕ}
+    (m : Movable up ps xs₀ P H times) (so-far : Moving up ps xs₀ H done xs t) where
+  pub moving-sided : done ≤ times → Sided up ps xs P H
+  moving-sided h = rw (so-far .seats) (moved-sided up m done h)
+
+  -- The state at the root makes the next move.
+  module _ {j : ℕ} (root : j ≡ getD t 1 0) where
+    pub root-inside : j < length ps
+    root-inside = rw root (winner-lt (so-far .winners) 1 (omega arith) (omega (arith, m .ready .problem .someState)))
+
+    pub root-has-seats : done ≤ times → j < length xs
+    root-has-seats h = rw (moving-sided h .seated .workable .states) root-inside
+
+    module _ {v : ℕ} (move : v ≡ movedBy up (getD xs j 0)) (left : done < times) where
+      pub root-moved : set xs j v ≡ movedTimes up ps H xs₀ (done + 1)
+      root-moved =
+          let first = root-is-first (so-far .winners) (moves-pass up (moving-sided (omega arith))) (m .ready .problem .someState) in
+          rw (one-more-moved up ps H xs₀ done, ← so-far .seats, moved-by-first up ps H xs, ← first, ← root) (rw move)
+
+      pub root-due : Sided up ps (set xs j v) P H × Moved up ps H (set xs j v) j t
+      root-due = (
+        rw root-moved (moved-sided up m (done + 1) (omega arith)),
+        record { inside = root-inside; due = replaying-start (so-far .winners) j (moves-agree up ps H xs j v) },
+      )
+
+-- ---- moves by a scan
+
+-- The state that moves is one of the states.
+pub unmet-inside : {ps xs : List ℕ} {P H r : ℕ} → Workable ps xs P H → r ≡ firstUnmet (sizeTest ps H) (length ps) xs → r < length xs
+unmet-inside {ps} {xs} {P} {H} w e = rw (e, w .states) (firstUnmet-lt (length ps) (sizeTest ps H) xs (w .someState))
+
+pub met-inside : {ps xs : List ℕ} {P H r : ℕ} → Workable ps xs P H → r ≡ lastMet oneEach (sizeTest ps H) (length ps) xs → r < length xs
+met-inside {ps} {xs} {P} {H} w e = rw (e, w .states) (lastMet-lt (length ps) oneEach (sizeTest ps H) xs (w .someState))
+
+-- The same of the populations.
+pub inside-states : {ps xs : List ℕ} {P H r : ℕ} → Workable ps xs P H → r < length xs → r < length ps
+inside-states w h = rw (w .states) at h

@@ -1,0 +1,47 @@
+-- The tournament among the states: how it decides between two of them, and what its functions ask and hand back. A move places a seat
+-- where `up` is true, and withdraws one otherwise.
+-- Assumes nothing.
+use mathlib.Core.Bool.{Bool, true, false, cond}
+use mathlib.Core.List.{List}
+use Prim.Native.Nat.{ℕ, _+_, _/_, _<_}
+use lib.ListN.{length, set}
+use Rattle.claims.specs.inner.Order.{wantsBefore, givesUpBefore}
+use Rattle.claims.specs.inner.SizeClaims.{sizeTest, oneEach}
+use Rattle.claims.specs.inner.SizeOrder.{size-order}
+use Rattle.claims.specs.inner.Tournament.{better, Passes, Winners}
+use Rattle.claims.specs.inner.TournamentReplay.{Replaying, AgreeBut}
+use Rattle.claims.specs.inner.TournamentOrders.{wants-passes, gives-passes, wants-agree, gives-agree}
+use Rattle.leximin.specs.inner.Quotients.{Sided}
+
+-- State i moves rather than state j.
+unfoldable pub movesBefore : (up : Bool) (ps : List ℕ) (H : ℕ) (xs : List ℕ) → ℕ → ℕ → Bool
+movesBefore up ps H xs = cond up (wantsBefore (sizeTest ps H) xs) (givesUpBefore oneEach (sizeTest ps H) xs)
+
+-- The one of two states that moves.
+abbrev pub betterState : (up : Bool) (ps : List ℕ) (H : ℕ) (xs : List ℕ) → ℕ → ℕ → ℕ
+betterState up ps H xs = better (movesBefore up ps H xs)
+
+-- Two states of the list.
+abbrev pub Pair : (ps : List ℕ) (i j : ℕ) → Type 0
+Pair ps i j = (i < length ps) × (j < length ps)
+
+-- Every place of the tournament is right.
+abbrev pub Champions : (up : Bool) (ps : List ℕ) (H : ℕ) (xs t : List ℕ) → Type 0
+Champions up ps H xs t = Winners (movesBefore up ps H xs) (length ps) t
+
+-- State j's seats have changed, so the way up from its leaf is due.
+pub record Moved (up : Bool) (ps : List ℕ) (H : ℕ) (xs : List ℕ) (j : ℕ) (t : List ℕ) : Type 0 where
+  pub inside : j < length ps
+  pub due : Replaying (movesBefore up ps H xs) (length ps) ((length ps + j) / 2) t
+
+-- The order is one for a tournament, and a state's seats bear on no other states' order.
+pub moves-pass : {ps xs : List ℕ} {P H : ℕ} (up : Bool) → Sided up ps xs P H → Passes (length ps) (movesBefore up ps H xs)
+unfolding movesBefore
+moves-pass {ps} {xs} true s = wants-passes (size-order (s .sound)) xs (s .seated .least)
+moves-pass {ps} {xs} false s = gives-passes (size-order (s .sound)) xs
+
+pub moves-agree : (up : Bool) (ps : List ℕ) (H : ℕ) (xs : List ℕ) (j v : ℕ)
+    → AgreeBut j (movesBefore up ps H xs) (movesBefore up ps H (set xs j v))
+unfolding movesBefore
+moves-agree true ps H xs j v = wants-agree (sizeTest ps H) xs j v
+moves-agree false ps H xs j v = gives-agree (sizeTest ps H) xs j v oneEach

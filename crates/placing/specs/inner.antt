@@ -1,0 +1,6 @@
+-- What inner contracts say, and the laws that proofs cite: nothing here has to be believed.
+pub mod Lists
+pub mod Genuine
+pub mod Telling
+pub mod Stepping
+pub mod Walk

@@ -1,0 +1,177 @@
+-- How a genuine placing is told: by tests of its steps, its total and its seats that need no replay. A placing passes them exactly if it
+-- is the one that its steps give.
+-- Assumes nothing.
+use mathlib.Core.Path.{_≡_, refl, sym, _∙_}
+use mathlib.Core.Bool.{Bool, true, false, false≢true, _&&_}
+use mathlib.Core.Logic.{_⊎_, inl, inr}
+use mathlib.Core.List.{List, [], _∷_}
+use Prim.Native.Nat.{ℕ, zero, suc, zero-le, suc-le-suc, _+_, _-_, _<_, _≤_}
+use native.Mathlib.Omega.{arith}
+use native.Mathlib.Nat.{le-trans, le-of-suc-le-suc, not-suc-le-zero}
+use lib.Dec.{ltb, leb, eqb}
+use borrow.Author.Tests.{lt-ltb, le-ltb, ltb-true, eq-eqb, eqb-true}
+use lib.ListN.{length, getD, List·getD-eq-default}
+use Rattle.apportionment.specs.Limits.{houseLimit, sumLimit}
+use Rattle.apportionment.specs.Lists.{sum}
+use Rattle.apportionment.specs.inner.Lists.{entry-at-most-sum}
+use Rattle.apportionment.specs.Allotment.{within}
+use Rattle.apportionment.specs.Quantities.{distance}
+use Rattle.apportionment.specs.Leximin.{leximinFor, startSeats, startTotal, gap, totalAfter}
+use Rattle.claims.specs.inner.Order.{Standing, endsApart}
+use Rattle.claims.specs.inner.SizeClaims.{sizeTest, oneEach}
+use Rattle.claims.specs.inner.DivisorSeats.{withdrawn-at-most}
+use Rattle.claims.specs.inner.LeximinSteps.{lexMoved, moved-leximin, moved-standing, moved-total, leximin-ends-apart, ends-apart-leximin}
+use Rattle.claims.specs.inner.SizeShape.{le-or-lt}
+use Rattle.problem.specs.inner.Total.{cappedTotal, total-is-sum, total-past-limit}
+use Rattle.leximin.specs.inner.Scan.{Seated}
+use Rattle.leximin.specs.inner.Start.{Ready, ready-counts, ready-sound, start-within-house, start-total-fits}
+use Rattle.placing.specs.inner.Lists.{eachWithin, within-yes, within-bounds}
+
+pub and-both : (a b : Bool) → a && b ≡ true → (a ≡ true) × (b ≡ true)
+and-both true b e = (refl, e)
+and-both false b e = absurd (false≢true e)
+
+-- The steps are no more than the gap, and the total is the one that they lead to.
+unfoldable pub stepsAgree : (ps : List ℕ) (H total steps : ℕ) → Bool
+stepsAgree ps H total steps = leb steps (gap ps H) && eqb total (totalAfter ps H steps)
+
+-- The seats sum to the total, each state has a seat and none more than the house, and their two ends are apart.
+unfoldable pub seatsAgree : (ps xs : List ℕ) (H total : ℕ) → Bool
+seatsAgree ps xs H total =
+    eqb (cappedTotal xs) total && eachWithin H xs && endsApart oneEach (sizeTest ps H) (length ps) xs
+
+-- ---- the steps
+
+module _ (ps : List ℕ) (H begun : ℕ) (start : begun ≡ startTotal ps H) (total steps : ℕ) where
+  -- Below the house: at most the seats that lack, each of them added.
+  pub steps-up : begun < H → leb steps (H - begun) && eqb total (begun + steps) ≡ stepsAgree ps H total steps
+  unfolding stepsAgree gap distance totalAfter
+  steps-up h =
+      let below : startTotal ps H < H = rw start at h in
+      let apart : (startTotal ps H - H) + (H - startTotal ps H) ≡ H - startTotal ps H = omega arith in
+      rw (start, lt-ltb _ _ below, apart)
+
+  -- Not below it: at most the seats that are too many, each of them withdrawn.
+  pub steps-down : H ≤ begun → leb steps (begun - H) && eqb total (begun - steps) ≡ stepsAgree ps H total steps
+  unfolding stepsAgree gap distance totalAfter
+  steps-down h =
+      let above : H ≤ startTotal ps H = rw start at h in
+      let apart : (startTotal ps H - H) + (H - startTotal ps H) ≡ startTotal ps H - H = omega arith in
+      rw (start, le-ltb _ _ above, apart)
+
+-- ---- the seats
+
+-- Each place of a list that passes is within the limit.
+each-within-at : (limit : ℕ) (xs : List ℕ) → eachWithin limit xs ≡ true → (i : ℕ) → i < length xs
+    → (1 ≤ getD xs i 0) × (getD xs i 0 ≤ limit)
+unfolding eachWithin
+each-within-at limit [] e i h = absurd (not-suc-le-zero h)
+each-within-at limit (x ∷ xs) e i h = by-head (within limit x) refl (each-within-at limit xs) i h
+  where
+    by-head : (t : Bool) → within limit x ≡ t
+        → (eachWithin limit xs ≡ true → (k : ℕ) → k < length xs → (1 ≤ getD xs k 0) × (getD xs k 0 ≤ limit))
+        → (k : ℕ) → k < length (x ∷ xs) → (1 ≤ getD (x ∷ xs) k 0) × (getD (x ∷ xs) k 0 ≤ limit)
+    by-head true w rest zero l = within-bounds limit x w
+    by-head true w rest (suc k) l = rest (rw w at e) k (le-of-suc-le-suc l)
+    by-head false w rest k l = absurd (false≢true (rw w at e))
+
+-- Seats within the limit at each place pass.
+pub all-within : (limit : ℕ) (xs : List ℕ) → ((i : ℕ) → i < length xs → (1 ≤ getD xs i 0) × (getD xs i 0 ≤ limit))
+    → eachWithin limit xs ≡ true
+unfolding eachWithin
+all-within limit [] all = refl
+all-within limit (x ∷ xs) all =
+    let here : (1 ≤ x) × (x ≤ limit) = all 0 (suc-le-suc zero-le) in
+    rw (within-yes limit x (λ e. omega arith) (here .1)) (all-within limit xs (λ i h. all (suc i) (suc-le-suc h)))
+
+pub seats-seated : {ps xs : List ℕ} {P H : ℕ} → Ready ps P H → length xs ≡ length ps → eachWithin H xs ≡ true → Seated ps xs P H
+seats-seated {ps} {xs} {P} {H} r same e =
+    record {
+      workable =
+          record {
+            counts = ready-counts r;
+            someState = r .problem .someState;
+            states = same;
+            seatsFit = λ i. by-place i (le-or-lt (length xs) i);
+          };
+      least = λ i h. each-within-at H xs e i (rw same h) .0;
+    }
+  where
+    by-place : (i : ℕ) → (length xs ≤ i) ⊎ (i < length xs) → getD xs i 0 ≤ houseLimit
+    by-place i (inl h) = rw (List·getD-eq-default xs 0 {n = i} h) (omega arith)
+    by-place i (inr h) = le-trans (each-within-at H xs e i h .1) (r .problem .houseWithin)
+
+-- Seats that agree are within the house.
+pub agreed-within : (ps xs : List ℕ) (H total : ℕ) → seatsAgree ps xs H total ≡ true → eachWithin H xs ≡ true
+unfolding seatsAgree
+agreed-within ps xs H total e =
+    and-both (eqb (cappedTotal xs) total) (eachWithin H xs)
+    (and-both (eqb (cappedTotal xs) total && eachWithin H xs) (endsApart oneEach (sizeTest ps H) (length ps) xs) e .0) .1
+
+-- ---- the leximin allotment passes the tests of seats
+
+module _ {ps : List ℕ} {P H : ℕ} (r : Ready ps P H) (fits : length ps ≤ H) (m : ℕ) (few : m ≤ gap ps H) where
+  abbrev lex : List ℕ
+  lex = leximinFor ps H (totalAfter ps H m)
+
+  moved : lexMoved ps H m ≡ lex
+  moved = moved-leximin (ready-sound r) fits m few
+
+  lex-standing : Standing (length ps) oneEach (sizeTest ps H) lex
+  lex-standing = rw moved at (moved-standing (ready-sound r) fits m few)
+
+  lex-total : sum lex ≡ totalAfter ps H m
+  lex-total = rw moved at (moved-total (ready-sound r) fits m few)
+
+  pub lex-states : length (leximinFor ps H (totalAfter ps H m)) ≡ length ps
+  lex-states = lex-standing .states
+
+  -- No state has more seats than the house: placing ends at the house, and withdrawing begins at nearest seats.
+  lex-within-house : (i : ℕ) → getD lex i 0 ≤ H
+  unfolding gap distance totalAfter lexMoved
+  lex-within-house i = by-direction (ltb (startTotal ps H) H) refl
+    where
+      by-direction : (t : Bool) → ltb (startTotal ps H) H ≡ t → getD lex i 0 ≤ H
+      by-direction true e =
+          let below = ltb-true (startTotal ps H) H e in
+          let ends : totalAfter ps H m ≤ H = rw e (omega (arith, below, few)) in
+          le-trans (entry-at-most-sum lex i) (rw lex-total ends)
+      by-direction false e =
+          rw (← moved, e)
+          (le-trans (withdrawn-at-most oneEach (sizeTest ps H) (length ps) (startSeats ps H) m i) (start-within-house r i))
+
+  -- The total after some steps is far below the limit of sums.
+  total-fits : totalAfter ps H m ≤ sumLimit
+  unfolding gap distance totalAfter
+  total-fits = by-direction (ltb (startTotal ps H) H) refl
+    where
+      by-direction : (t : Bool) → ltb (startTotal ps H) H ≡ t → totalAfter ps H m ≤ sumLimit
+      by-direction true e = rw e (omega (arith, ltb-true (startTotal ps H) H e, few, r .problem .houseWithin))
+      by-direction false e = rw e (omega (arith, start-total-fits r))
+
+  pub lex-agrees : seatsAgree ps lex H (totalAfter ps H m) ≡ true
+  unfolding seatsAgree
+  lex-agrees =
+      rw (
+        total-is-sum lex (rw lex-total total-fits),
+        eq-eqb _ _ lex-total,
+        all-within H lex (λ i h. (lex-standing .least i (rw (lex-standing .states) at h), lex-within-house i)),
+        leximin-ends-apart (ready-sound r) fits m lex few refl,
+      )
+
+-- Seats that pass the tests for the total after m steps are the leximin allotment for it.
+pub agreed-seats : {ps xs : List ℕ} {P H total : ℕ} → Ready ps P H → length ps ≤ H → (m : ℕ) → m ≤ gap ps H → length xs ≡ length ps
+    → total ≡ totalAfter ps H m → seatsAgree ps xs H total ≡ true → xs ≡ leximinFor ps H (totalAfter ps H m)
+unfolding seatsAgree
+agreed-seats {ps} {xs} {P} {H} {total} r fits m few same whole e =
+    let both = and-both (eqb (cappedTotal xs) total && eachWithin H xs) _ e in
+    let first = and-both (eqb (cappedTotal xs) total) _ (both .0) in
+    ends-apart-leximin (ready-sound r) fits m xs same (λ i h. each-within-at H xs (first .1) i (rw same h) .0)
+    (capped-sum xs (eqb-true _ _ (first .0)) ∙ whole) (both .1)
+  where
+    capped-sum : (ys : List ℕ) → cappedTotal ys ≡ total → sum ys ≡ total
+    capped-sum ys c = by-limit (le-or-lt (sum ys) sumLimit)
+      where
+        by-limit : (sum ys ≤ sumLimit) ⊎ (sumLimit < sum ys) → sum ys ≡ total
+        by-limit (inl h) = sym (total-is-sum ys h) ∙ c
+        by-limit (inr h) = omega (arith, total-past-limit ys h, c, whole, total-fits r fits m few)

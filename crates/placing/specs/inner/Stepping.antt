@@ -1,0 +1,182 @@
+-- One step of a genuine placing: what the move asks holds, and what it leaves is the placing one step later.
+-- Assumes nothing.
+use mathlib.Core.Path.{_≡_, refl, sym, _∙_, ap}
+use mathlib.Core.Bool.{Bool, true, false}
+use mathlib.Core.List.{List, _++_}
+use Prim.Native.Nat.{ℕ, _+_, _-_, _<_, _≤_}
+use native.Mathlib.Omega.{arith}
+use native.Mathlib.Numerals.{add-one}
+use lib.Dec.{ltb}
+use lib.ListN.{length, take, drop, replicate}
+use lib.Seq.{drop-at, take-at}
+use borrow.Author.Tests.{ltb-true, ltb-false}
+use Rattle.apportionment.specs.Limits.{stateLimit}
+use Rattle.apportionment.specs.Quantities.{distance}
+use Rattle.apportionment.specs.Leximin.{leximinFor, startTotal, gap, totalAfter}
+use Rattle.claims.specs.inner.Order.{placed, withdrawn}
+use Rattle.claims.specs.inner.SizeClaims.{sizeTest, oneEach}
+use Rattle.claims.specs.inner.StartBounds.{gap-below-states}
+use Rattle.claims.specs.inner.LeximinSteps.{lexStep, step-leximin}
+use Rattle.problem.specs.inner.Passed.{OpenPassed, open-passed}
+use Rattle.leximin.specs.inner.Scan.{Seated}
+use Rattle.leximin.specs.inner.Start.{Ready, ready-sound}
+use Rattle.placing.specs.Placing.{padded, placingAt, peopleOf}
+use Rattle.placing.specs.inner.Genuine.{seats-seated, agreed-within, lex-states}
+use Rattle.placing.specs.inner.Telling.{Genuine, genuine-passes, opened-ready, record-equal}
+use Rattle.placing.specs.declared.Placing.{Placing}
+
+module _ (p : Placing) (g : Genuine p) where
+  abbrev ps : List ℕ
+  ps = peopleOf p
+
+  abbrev lex : ℕ → List ℕ
+  lex m = leximinFor ps (p .house) (totalAfter ps (p .house) m)
+
+  opened : OpenPassed ps (p .house)
+  opened = open-passed ps (p .house) (g .opens)
+
+  -- ---- what a genuine placing holds
+
+  pub own-states : p .states ≡ length (peopleOf p)
+  unfolding placingAt
+  own-states = ap (λ (q : Placing). q .states) (g .is)
+
+  pub states-fit : p .states ≤ stateLimit
+  states-fit = genuine-passes p g .statesFit
+
+  own-people : p .populations ≡ padded ps
+  unfolding placingAt
+  own-people = ap (λ (q : Placing). q .populations) (g .is)
+
+  own-seats : p .seats ≡ padded (lex (p .steps))
+  unfolding placingAt
+  own-seats = ap (λ (q : Placing). q .seats) (g .is)
+
+  own-total : p .total ≡ totalAfter ps (p .house) (p .steps)
+  unfolding placingAt
+  own-total = ap (λ (q : Placing). q .total) (g .is)
+
+  lex-long : (m : ℕ) → m ≤ gap ps (p .house) → length (lex m) ≡ p .states
+  lex-long m h = lex-states (opened-ready opened) (opened .seatForEach) m h ∙ sym own-states
+
+  first-seats : take (p .states) (p .seats) ≡ lex (p .steps)
+  unfolding padded
+  first-seats =
+      ap (take (p .states)) own-seats
+      ∙ take-at (lex (p .steps)) (replicate (stateLimit - length (lex (p .steps))) 0) (p .states) (lex-long (p .steps) (g .few))
+
+  last-zeros : drop (p .states) (p .seats) ≡ replicate (stateLimit - p .states) 0
+  unfolding padded
+  last-zeros =
+      ap (drop (p .states)) own-seats
+      ∙ drop-at (lex (p .steps)) (replicate (stateLimit - length (lex (p .steps))) 0) (p .states) (lex-long (p .steps) (g .few))
+      ∙ ap (λ (k : ℕ). replicate (stateLimit - k) 0) (lex-long (p .steps) (g .few))
+
+  -- The steps made are few.
+  pub steps-fit : p .steps ≤ stateLimit
+  steps-fit = omega (arith, g .few, gap-below-states (ready-sound (opened-ready opened)), opened .problem .statesWithin)
+
+  -- The seats can be worked on.
+  pub seats-ready : {P : ℕ} → Ready (peopleOf p) P (p .house) → Seated (peopleOf p) (take (p .states) (p .seats)) P (p .house)
+  seats-ready r =
+      seats-seated r (ap length first-seats ∙ lex-states (opened-ready opened) (opened .seatForEach) (p .steps) (g .few))
+      (agreed-within (peopleOf p) (take (p .states) (p .seats)) (p .house) (p .total) (genuine-passes p g .seats))
+
+  -- ---- the step
+
+  -- The total is not the house yet: there is a step left.
+  module _ (away : p .total ≡ p .house → ⊥) where
+    steps-left : p .steps < gap ps (p .house)
+    unfolding gap distance totalAfter
+    steps-left = by-direction (ltb (startTotal ps (p .house)) (p .house)) refl
+      where
+        by-direction : (t : Bool) → ltb (startTotal ps (p .house)) (p .house) ≡ t → p .steps < gap ps (p .house)
+        by-direction true e =
+            omega (arith, ltb-true (startTotal ps (p .house)) (p .house) e, g .few, away, rw (e, totalAfter) at own-total)
+        by-direction false e =
+            omega (arith, ltb-false (startTotal ps (p .house)) (p .house) e, g .few, away, rw (e, totalAfter) at own-total)
+
+    -- The seats one step later, with what stands past the states.
+    next-seats : {ys : List ℕ} → ys ≡ lexStep ps (p .house) (take (p .states) (p .seats))
+        → ys ++ drop (p .states) (p .seats) ≡ padded (lex (p .steps + 1))
+    unfolding padded
+    next-seats {ys} e =
+        let next : ys ≡ lex (p .steps + 1) =
+        e ∙ ap (lexStep ps (p .house)) first-seats ∙ step-leximin (ready-sound (opened-ready opened)) (opened .seatForEach) (p .steps) steps-left
+        ∙ ap lex (sym (add-one (p .steps))) in
+        ap (λ (l : List ℕ). l ++ drop (p .states) (p .seats)) next
+        ∙ ap (λ (l : List ℕ). lex (p .steps + 1) ++ l)
+        (last-zeros ∙ ap (λ (k : ℕ). replicate (stateLimit - k) 0) (sym (lex-long (p .steps + 1) (rw (add-one (p .steps)) steps-left))))
+
+    next-placing : {ys : List ℕ} {total : ℕ} → ys ≡ lexStep ps (p .house) (take (p .states) (p .seats))
+        → total ≡ totalAfter ps (p .house) (p .steps + 1)
+        → _≡_ {A = Placing}
+        (record {
+          states = p .states;
+          populations = p .populations;
+          house = p .house;
+          seats = ys ++ drop (p .states) (p .seats);
+          total = total;
+          steps = p .steps + 1;
+        })
+        (placingAt (peopleOf p) (p .house) (p .steps + 1))
+    unfolding placingAt
+    next-placing e t = record-equal own-states own-people refl (next-seats e) t refl
+
+    -- Below the house a seat is placed.
+    module _ (below : p .total < p .house) where
+      adds : ltb (startTotal ps (p .house)) (p .house) ≡ true
+      unfolding gap distance totalAfter
+      adds = by-direction (ltb (startTotal ps (p .house)) (p .house)) refl
+        where
+          by-direction : (t : Bool) → ltb (startTotal ps (p .house)) (p .house) ≡ t → ltb (startTotal ps (p .house)) (p .house) ≡ true
+          by-direction true e = e
+          by-direction false e =
+              absurd
+              (omega (arith, ltb-false (startTotal ps (p .house)) (p .house) e, g .few, rw (e, totalAfter) at own-total))
+
+      pub placed-next : {ys : List ℕ}
+          → ys ≡ placed (sizeTest (peopleOf p) (p .house)) (length (peopleOf p)) (take (p .states) (p .seats))
+          → _≡_ {A = Placing}
+          (record {
+            states = p .states;
+            populations = p .populations;
+            house = p .house;
+            seats = ys ++ drop (p .states) (p .seats);
+            total = p .total + 1;
+            steps = p .steps + 1;
+          })
+          (placingAt (peopleOf p) (p .house) (p .steps + 1))
+      unfolding lexStep totalAfter
+      placed-next e =
+          next-placing (e ∙ rw (adds, lexStep))
+          (rw (adds, totalAfter) (omega (arith, rw (adds, totalAfter) at own-total)))
+
+    -- Above it one is withdrawn.
+    module _ (above : p .house ≤ p .total) where
+      withdraws : ltb (startTotal ps (p .house)) (p .house) ≡ false
+      unfolding gap distance totalAfter
+      withdraws = by-direction (ltb (startTotal ps (p .house)) (p .house)) refl
+        where
+          by-direction : (t : Bool) → ltb (startTotal ps (p .house)) (p .house) ≡ t → ltb (startTotal ps (p .house)) (p .house) ≡ false
+          by-direction false e = e
+          by-direction true e =
+              absurd
+              (omega (arith, ltb-true (startTotal ps (p .house)) (p .house) e, steps-left, rw (e, totalAfter) at own-total))
+
+      pub withdrawn-next : {ys : List ℕ}
+          → ys ≡ withdrawn oneEach (sizeTest (peopleOf p) (p .house)) (length (peopleOf p)) (take (p .states) (p .seats))
+          → _≡_ {A = Placing}
+          (record {
+            states = p .states;
+            populations = p .populations;
+            house = p .house;
+            seats = ys ++ drop (p .states) (p .seats);
+            total = p .total - 1;
+            steps = p .steps + 1;
+          })
+          (placingAt (peopleOf p) (p .house) (p .steps + 1))
+      unfolding lexStep totalAfter
+      withdrawn-next e =
+          next-placing (e ∙ rw (withdraws, lexStep))
+          (rw (withdraws, totalAfter) (omega (arith, rw (withdraws, totalAfter) at own-total)))

@@ -1,0 +1,5 @@
+-- What inner contracts say, and the laws that proofs cite: nothing here has to be believed.
+pub mod Writing
+pub mod Decimal
+pub mod Bounds
+pub mod ShownRoom

@@ -1,0 +1,93 @@
+-- How long each piece of text can be: by this a whole listing, and a block of the work, fits the page in which it is written.
+-- Assumes nothing.
+use mathlib.Core.Path.{_≡_, refl}
+use mathlib.Core.Bool.{Bool, true, false}
+use mathlib.Core.List.{List, _++_}
+use Prim.Native.Nat.{ℕ, zero, suc, _+_, _*_, _^_, _<_, _≤_, _/_}
+use native.Mathlib.Nat.{suc-mul}
+use native.Mathlib.Omega.{arith}
+use borrow.Author.Tests.{ltb-true, ltb-false}
+use lib.Dec.{ltb}
+use lib.ListN.{length, length-append}
+use Rattle.apportionment.specs.Limits.{stateLimit, houseLimit, sumLimit}
+use Rattle.apportionment.specs.Text.{decimal}
+use Rattle.apportionment.specs.Quantities.{hundredthsText, markText}
+use Rattle.apportionment.specs.declared.Mark.{Mark}
+use Rattle.apportionment.specs.declared.Mark.the-variants.{In, High, Over, None}
+use Rattle.apportionment.specs.declared.Method.{Method}
+use Rattle.apportionment.specs.declared.Method.the-variants.{Leximin, Adams, Dean, Hill, Webster, Jefferson, Remainders}
+use Rattle.apportionment.specs.Methods.{methodText}
+use Rattle.text.specs.Shared.{numbersText, totalLine, refusalLine}
+use Rattle.text.specs.inner.Decimal.{decimal-one, decimal-more}
+
+-- A number below 10 ^ (k + 1) has at most k + 1 digits.
+pub decimal-length : (k n : ℕ) → n < 10 ^ suc k → length (decimal n) ≤ suc k
+decimal-length zero n bound = rw (decimal-one n (omega arith)) (omega arith)
+decimal-length (suc k) n bound = by-size (ltb n 10) refl (λ large. decimal-length k (n / 10) (omega arith))
+  where
+    by-size : (small : Bool) → ltb n 10 ≡ small → (10 ≤ n → length (decimal (n / 10)) ≤ suc k) → length (decimal n) ≤ suc (suc k)
+    by-size true e tens = rw (decimal-one n (ltb-true n 10 e)) (omega arith)
+    by-size false e tens =
+        let large : 10 ≤ n = ltb-false n 10 e in
+        rw (decimal-more n large, length-append) (omega (arith, tens large))
+
+-- Every u64 has at most 20 digits.
+pub decimal-of-u64 : (n : ℕ) → n < 2 ^ 64 → length (decimal n) ≤ 20
+decimal-of-u64 n bound = decimal-length 19 n (omega arith)
+
+-- A population, or a sum of them, has at most 10 digits, a house or seats 4, and a number of states 3.
+pub decimal-of-sum : (n : ℕ) → n ≤ sumLimit → length (decimal n) ≤ 10
+decimal-of-sum n bound = decimal-length 9 n (omega arith)
+
+pub decimal-of-house : (n : ℕ) → n ≤ houseLimit → length (decimal n) ≤ 4
+decimal-of-house n bound = decimal-length 3 n (omega arith)
+
+pub decimal-of-states : (n : ℕ) → n ≤ stateLimit → length (decimal n) ≤ 3
+decimal-of-states n bound = decimal-length 2 n (omega arith)
+
+-- Hundredths have their whole part, a point and two digits.
+pub hundredths-length : (h : ℕ) → length (hundredthsText h) ≡ length (decimal (h / 100)) + 3
+unfolding hundredthsText
+hundredths-length h = simp length-append (omega arith)
+
+-- A mark's word, and a method's.
+pub mark-length : (mark : Mark) → length (markText mark) ≤ 4
+unfolding markText
+mark-length In = omega arith
+mark-length High = omega arith
+mark-length Over = omega arith
+mark-length None = omega arith
+
+pub method-length : (method : Method) → length (methodText method) ≤ 10
+unfolding methodText
+method-length Leximin = omega arith
+method-length Adams = omega arith
+method-length Dean = omega arith
+method-length Hill = omega arith
+method-length Webster = omega arith
+method-length Jefferson = omega arith
+method-length Remainders = omega arith
+
+-- The bytes of two numbers, each within its own bound.
+pub numbers-length : {k l : ℕ} (x y : ℕ) → length (decimal x) ≤ k → length (decimal y) ≤ l → length (numbersText x y) ≤ k + l + 2
+unfolding numbersText
+numbers-length x y few some = simp length-append (omega arith)
+
+-- The line of totals and a refusal's, each with its numbers' own bounds.
+pub total-line-length : {k l : ℕ} (P allotted : ℕ) → length (decimal P) ≤ k → length (decimal allotted) ≤ l
+    → length (totalLine P allotted) ≤ k + l + 8
+unfolding totalLine
+total-line-length P allotted few some = simp length-append (omega (arith, numbers-length P allotted few some))
+
+pub refusal-line-length : (n l : ℕ) → n < 2 ^ 64 → l < 2 ^ 64 → length (refusalLine n l) ≤ 50
+unfolding refusalLine
+refusal-line-length n l few small =
+    simp length-append (omega (arith, numbers-length n l (decimal-of-u64 n few) (decimal-of-u64 l small)))
+
+-- Lines one after the other, each within its room, are within as many rooms.
+pub lines-length : (lines line : ℕ → List ℕ) (room n : ℕ) → length (lines 0) ≡ 0 → ((k : ℕ) → lines (suc k) ≡ lines k ++ line k)
+    → ((k : ℕ) → k < n → length (line k) ≤ room) → length (lines n) ≤ n * room
+lines-length lines line room zero empty more each = omega arith
+lines-length lines line room (suc n) empty more each =
+    rw (more n, length-append, suc-mul)
+    (omega (arith, lines-length lines line room n empty more (λ k below. each k (omega arith)), each n (omega arith)))
