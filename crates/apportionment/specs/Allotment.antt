@@ -1,9 +1,9 @@
--- Document 01, "Operations": the checks of allotting and of opening, and what allotting gives.
+-- Document 01, "Operations": the checks of allotting and of opening in their order, and what allotting gives.
 -- Assumes nothing.
-use mathlib.Core.Bool.{Bool, true, false, cond}
-use mathlib.Core.List.{List, [], _∷_}
+use mathlib.Core.Bool.{Bool, true, false, cond, not, _&&_}
+use mathlib.Core.List.{List, [], _∷_, _++_}
 use Prim.Native.Nat.{ℕ}
-use lib.Dec.{ltb, leb, eqb}
+use lib.Dec.{ltb, eqb}
 use lib.ListN.{length}
 use Rattle.apportionment.specs.Limits.{stateLimit, houseLimit, sumLimit}
 use Rattle.apportionment.specs.Refusals.{
@@ -15,6 +15,7 @@ use Rattle.apportionment.specs.Refusals.{
   seatListLength,
   houseBelowStates,
 }
+use Rattle.apportionment.specs.Checks.{outside, firstRefusal}
 use Rattle.apportionment.specs.Lists.{sum}
 use Rattle.apportionment.specs.Leximin.{leximinFor, gap}
 use Rattle.apportionment.specs.Divisor.{divisorSeats}
@@ -22,16 +23,30 @@ use Rattle.apportionment.specs.Remainders.{remainderSeats}
 use Rattle.apportionment.specs.declared.Method.{Method}
 use Rattle.apportionment.specs.declared.Method.the-variants.{Leximin, Adams, Dean, Hill, Webster, Jefferson, Remainders}
 
--- A number is at least 1 and at most the limit.
-unfoldable pub within : (limit x : ℕ) → Bool
-within limit x = cond (eqb x 0) false (leb x limit)
+-- ---- the checks, each true where it fails
 
--- Some population is 0.
-unfoldable pub hasZero : List ℕ → Bool
+-- 10: the number of states is outside its limits.
+unfoldable pub statesOutside : (ps : List ℕ) → Bool
+statesOutside ps = outside stateLimit (length ps)
+
+-- 11: the house is outside its limits.
+unfoldable pub houseOutside : (H : ℕ) → Bool
+houseOutside H = outside houseLimit H
+
+-- 12: some population is 0.
+unfoldable pub hasZero : (ps : List ℕ) → Bool
 hasZero [] = false
 hasZero (p ∷ ps) = cond (eqb p 0) true (hasZero ps)
 
--- The methods that give every state a seat, so that the house must have one for each.
+-- 13: the sum is too large.
+unfoldable pub sumOutside : (ps : List ℕ) → Bool
+sumOutside ps = ltb sumLimit (sum ps)
+
+-- 14: the seat list has not a place for each state.
+unfoldable pub listMisfits : (room : ℕ) (ps : List ℕ) → Bool
+listMisfits room ps = not (eqb room (length ps))
+
+-- The methods that give every state a seat.
 unfoldable pub seatsEveryState : Method → Bool
 seatsEveryState Leximin = true
 seatsEveryState Adams = true
@@ -41,28 +56,31 @@ seatsEveryState Webster = false
 seatsEveryState Jefferson = false
 seatsEveryState Remainders = false
 
--- The checks of states, house and populations that allotting and opening share: 10, 11, 12, 13, in this order.
-unfoldable pub problemRefusal : (ps : List ℕ) (H : ℕ) → ℕ
-problemRefusal ps H =
-    cond (within stateLimit (length ps))
-    (cond (within houseLimit H)
-    (cond (hasZero ps) populationZero
-    (cond (leb (sum ps) sumLimit) accepted sumTooLarge))
-    houseOutOfLimits)
-    statesOutOfLimits
-
--- The first refusal, or else the next check.
-unfoldable pub orElse : ℕ → ℕ → ℕ
-orElse refusal next = cond (eqb refusal accepted) next refusal
-
 -- 15: the house has fewer seats than there are states, under a method that gives each state one.
-unfoldable pub houseRefusal : Method → (ps : List ℕ) (H : ℕ) → ℕ
-houseRefusal m ps H = cond (seatsEveryState m) (cond (ltb H (length ps)) houseBelowStates accepted) accepted
+unfoldable pub seatsTooFew : Method → (ps : List ℕ) (H : ℕ) → Bool
+seatsTooFew m ps H = seatsEveryState m && ltb H (length ps)
 
--- The refusal of allotting, 0 for none; `room` is the length of the lent seat list.
+-- ---- the refusals, 0 for none
+
+-- The checks that allotting and opening share.
+unfoldable pub problemChecks : (ps : List ℕ) (H : ℕ) → List (Bool × ℕ)
+problemChecks ps H =
+    (statesOutside ps, statesOutOfLimits)
+    ∷ (houseOutside H, houseOutOfLimits)
+    ∷ (hasZero ps, populationZero)
+    ∷ (sumOutside ps, sumTooLarge)
+    ∷ []
+
+-- The refusal of allotting; `room` is the length of the lent seat list.
 unfoldable pub allotRefusal : Method → (H : ℕ) (ps : List ℕ) (room : ℕ) → ℕ
 allotRefusal m H ps room =
-    orElse (problemRefusal ps H) (cond (eqb room (length ps)) (houseRefusal m ps H) seatListLength)
+    firstRefusal (problemChecks ps H ++ (listMisfits room ps, seatListLength) ∷ (seatsTooFew m ps H, houseBelowStates) ∷ [])
+
+-- The refusal of opening a placing.
+unfoldable pub openRefusal : (ps : List ℕ) (H : ℕ) → ℕ
+openRefusal ps H = firstRefusal (problemChecks ps H ++ (seatsTooFew Leximin ps H, houseBelowStates) ∷ [])
+
+-- ---- what allotting gives
 
 -- The allotment of each method.
 unfoldable pub seatsOf : Method → (ps : List ℕ) (H : ℕ) → List ℕ

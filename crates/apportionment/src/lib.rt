@@ -3,6 +3,9 @@
 
 pub mod refusals;
 
+ghost use mathlib.Core.Path.{_≡_};
+ghost use Rattle.apportionment.specs.Checks.{within, outside};
+
 // The seven methods, in the order in which document 01 names them.
 pub enum Method {
     Leximin,
@@ -30,3 +33,19 @@ pub const HOUSE_LIMIT: u64 = 9_999;
 pub const SUM_LIMIT: u64 = 4_294_967_295;
 
 pub const REGISTER_LIMIT: usize = 65_536;
+
+// A number is at least 1 and at most the limit.
+pub fn within(limit: u64, number: u64) -> bool
+    ensures { λ r. ⌜ r ≡ within limit number ⌝ }
+{
+    if number == 0 {
+        return false;
+    }
+    number <= limit
+}
+
+pub fn outside(limit: u64, number: u64) -> bool
+    ensures { λ r. ⌜ r ≡ outside limit number ⌝ }
+{
+    !within(limit, number)
+}

@@ -2,40 +2,45 @@
 -- what the operation promises of its answer.
 -- Assumes nothing.
 use mathlib.Core.Path.{_≡_}
-use mathlib.Core.Bool.{Bool, cond, _||_}
+use mathlib.Core.Bool.{Bool, cond}
+use mathlib.Core.List.{List, [], _∷_}
 use mathlib.Core.Option.{Option, none, some}
 use Prim.Native.Nat.{ℕ}
 use lib.Dec.{eqb, ltb}
 use lib.IntN.{ℤ}
 use Rattle.apportionment.specs.Limits.{houseLimit, sumLimit}
 use Rattle.apportionment.specs.Refusals.{accepted, departureOutOfLimits}
+use Rattle.apportionment.specs.Checks.{outside, firstRefusal}
 use Rattle.apportionment.specs.Quantities.{markOf, shownOf, sizeOf}
 use Rattle.apportionment.specs.declared.Mark.{Mark}
 use Rattle.apportionment.specs.declared.Mark.the-variants.{None}
 use Rattle.departure.specs.declared.Answer.{Answer}
 use Rattle.departure.specs.declared.Answer.the-variants.{Refused, NoSeats, Shown}
 
--- A number is outside 1 to its limit.
-unfoldable pub isOutside : (n most : ℕ) → Bool
-isOutside n most = eqb n 0 || ltb most n
-
--- P or H is outside its limits, p is outside 1 to P, or a is above H.
-unfoldable pub isRefused : (p a P H : ℕ) → Bool
-isRefused p a P H = isOutside P sumLimit || (isOutside H houseLimit || (isOutside p P || ltb H a))
-
 -- ---- the operation
 
--- The refusal number: 30 exactly for what is refused, otherwise 0.
+-- The checks: P or H outside its limits, p outside 1 to P, a above H.
+unfoldable pub departureChecks : (p a P H : ℕ) → List (Bool × ℕ)
+departureChecks p a P H =
+    (outside sumLimit P, departureOutOfLimits)
+    ∷ (outside houseLimit H, departureOutOfLimits)
+    ∷ (outside P p, departureOutOfLimits)
+    ∷ (ltb H a, departureOutOfLimits)
+    ∷ []
+
+-- The refusal number, 0 for none.
 unfoldable pub departureRefusal : (p a P H : ℕ) → ℕ
-departureRefusal p a P H = cond (isRefused p a P H) departureOutOfLimits accepted
+departureRefusal p a P H = firstRefusal (departureChecks p a P H)
 
 -- The shown departure in hundredths of a per cent: none where refused or without a seat.
 unfoldable pub departureShown : (p a P H : ℕ) → Option ℤ
-departureShown p a P H = cond (isRefused p a P H || eqb a 0) none (some (shownOf p a P H))
+departureShown p a P H =
+    cond (eqb (departureRefusal p a P H) accepted) (cond (eqb a 0) none (some (shownOf p a P H))) none
 
 -- The mark: none at all where refused, and the mark `none` with 0 seats.
 unfoldable pub departureMark : (p a P H : ℕ) → Option Mark
-departureMark p a P H = cond (isRefused p a P H) none (some (cond (eqb a 0) None (markOf (sizeOf p a P H))))
+departureMark p a P H =
+    cond (eqb (departureRefusal p a P H) accepted) (some (cond (eqb a 0) None (markOf (sizeOf p a P H)))) none
 
 -- ---- an answer in document 01's terms
 

@@ -3,12 +3,15 @@
 use apportionment::HOUSE_LIMIT;
 use apportionment::Mark;
 use apportionment::SUM_LIMIT;
+use apportionment::outside;
+use apportionment::refusals::ACCEPTED;
+use apportionment::refusals::DEPARTURE_OUT_OF_LIMITS;
 ghost use mathlib.Core.Path.{_≡_};
 ghost use Prim.Native.Nat.{_^_, _<_};
 ghost use lib.IntN.{natAbs, pos, _-ℤ_};
 ghost use Rattle.apportionment.specs.Quantities.{atMost, hundredthsOf, markOf};
 ghost use Rattle.departure.specs.inner.Exact.{Moderate, exactOf, shown, signed, size};
-ghost use Rattle.departure.specs.Answer.{AnswerIs, isOutside, isRefused};
+ghost use Rattle.departure.specs.Answer.{AnswerIs, departureRefusal};
 ghost use Rattle.departure.specs.inner.Answer.{InLimits};
 
 // A departure, exactly: (p H - a P) / (a P), not reduced.
@@ -93,7 +96,7 @@ impl Departure {
 pub fn departure_of(population: u64, seats: u64, total: u64, house: u64) -> Answer
     ensures { λ r. ⌜ AnswerIs population seats total house r ⌝ }
 {
-    if refused(population, seats, total, house) {
+    if departure_refusal(population, seats, total, house) != ACCEPTED {
         return Answer::Refused;
     }
     if seats == 0 {
@@ -106,29 +109,23 @@ pub fn departure_of(population: u64, seats: u64, total: u64, house: u64) -> Answ
     }
 }
 
-fn refused(population: u64, seats: u64, total: u64, house: u64) -> bool
-    ensures { λ r. ⌜ r ≡ isRefused population seats total house ⌝ }
+// 30 for the first check that fails, or 0 where there is no refusal.
+fn departure_refusal(population: u64, seats: u64, total: u64, house: u64) -> u64
+    ensures { λ r. ⌜ r ≡ departureRefusal population seats total house ⌝ }
 {
-    if outside(total, SUM_LIMIT) {
-        return true;
+    if outside(SUM_LIMIT, total) {
+        return DEPARTURE_OUT_OF_LIMITS;
     }
-    if outside(house, HOUSE_LIMIT) {
-        return true;
+    if outside(HOUSE_LIMIT, house) {
+        return DEPARTURE_OUT_OF_LIMITS;
     }
-    if outside(population, total) {
-        return true;
+    if outside(total, population) {
+        return DEPARTURE_OUT_OF_LIMITS;
     }
-    house < seats
-}
-
-// Is the number outside 1 to `most`?
-fn outside(number: u64, most: u64) -> bool
-    ensures { λ r. ⌜ r ≡ isOutside number most ⌝ }
-{
-    if number == 0 {
-        return true;
+    if house < seats {
+        return DEPARTURE_OUT_OF_LIMITS;
     }
-    most < number
+    ACCEPTED
 }
 
 // The nearest number of hundredths of a per cent, halves up. The division goes in two stages, the whole part first, so that

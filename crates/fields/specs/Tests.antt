@@ -6,7 +6,7 @@ use Prim.Native.Nat.{ℕ, _≤_}
 use native.Mathlib.Omega.{arith}
 use borrow.Author.Tests.{leb-true, le-leb, eqb-false, ne-eqb, not-true, not-false}
 use lib.Dec.{leb, eqb}
-use Rattle.apportionment.specs.Allotment.{within}
+use Rattle.apportionment.specs.Checks.{within}
 
 -- A second test is made where the first holds: both hold.
 pub both : (t u : Bool) → cond t u false ≡ true → (t ≡ true) × (u ≡ true)

@@ -2,7 +2,7 @@
 use crate::parts::all_between;
 ghost use mathlib.Core.Path.{_≡_};
 ghost use mathlib.Core.Bool.{true};
-ghost use Rattle.apportionment.specs.Allotment.{within};
+ghost use Rattle.apportionment.specs.Checks.{within};
 ghost use Rattle.fields.specs.Grammar.{isNumber, valueOf};
 
 const DIGIT_LIMIT: usize = 10;

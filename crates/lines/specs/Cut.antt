@@ -12,7 +12,7 @@ use Rattle.apportionment.specs.Limits.{sumLimit}
 use Rattle.apportionment.specs.Refusals.{accepted, lineIllFormed, numberOutOfLimits, nameUsed, runningSumTooLarge}
 use Rattle.apportionment.specs.Lists.{sameList}
 use Rattle.apportionment.specs.Text.{bytesOf}
-use Rattle.apportionment.specs.Allotment.{within}
+use Rattle.apportionment.specs.Checks.{within}
 use Rattle.fields.specs.Parts.{placeOf}
 use Rattle.fields.specs.Grammar.{lineFeed, ended, lineOf, fieldOf, isNumber, isMethodField}
 use Rattle.lines.specs.Lines.{methodField, houseField, countField, isHead, nameAt, numberField, numberAt, isPair, isStateLine, usedIn, stateRefusal}

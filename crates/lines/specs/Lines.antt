@@ -12,7 +12,7 @@ use Rattle.apportionment.specs.Limits.{stateLimit, houseLimit, sumLimit}
 use Rattle.apportionment.specs.Refusals.{accepted, lineIllFormed, numberOutOfLimits, methodUnknown, nameUsed, runningSumTooLarge, totalDiffers}
 use Rattle.apportionment.specs.Lists.{sameList}
 use Rattle.apportionment.specs.Text.{bytesOf}
-use Rattle.apportionment.specs.Allotment.{within}
+use Rattle.apportionment.specs.Checks.{within}
 use Rattle.apportionment.specs.declared.Method.{Method}
 use Rattle.apportionment.specs.declared.Method.the-variants.{Leximin}
 use Rattle.fields.specs.declared.Named.{Named}

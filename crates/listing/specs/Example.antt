@@ -33,16 +33,9 @@ use Rattle.apportionment.specs.Leximin.{
   firstOfAll,
   leximinFor,
 }
-use Rattle.apportionment.specs.Allotment.{
-  within,
-  hasZero,
-  seatsEveryState,
-  problemRefusal,
-  orElse,
-  houseRefusal,
-  allotRefusal,
-  seatsOf,
-}
+use Rattle.apportionment.specs.Checks.{within, outside, firstRefusal}
+use Rattle.apportionment.specs.Allotment.{statesOutside, houseOutside, hasZero, sumOutside, listMisfits, seatsEveryState, seatsTooFew}
+use Rattle.apportionment.specs.Allotment.{problemChecks, allotRefusal, seatsOf}
 use Rattle.fields.specs.Parts.{placeOf, has, before, after, allBetween}
 use Rattle.fields.specs.Grammar.{
   ended,
@@ -132,7 +125,8 @@ pub example-printed : printedOf exampleRegister ≡ exampleListing
 unfolding printedOf listedOf listedIn fittedOf listingOf listingIn numbersText headLine stateLines stateLine departureText totalLine seatsIn refused
     allotRefusalIn methodText decimal decimalWith sum sameList less atMost distance sizeOf isBelow nearestWhole hundredthsOf shownOf
     hundredthsText shownText markOf markText sizesOf insert largestFirst listLess moreAtFirst sizeList chosenBefore withFirst allotments
-    firstOf firstOfAll leximinFor within hasZero seatsEveryState problemRefusal orElse houseRefusal allotRefusal seatsOf placeOf has before after
+    firstOf firstOfAll leximinFor within outside firstRefusal statesOutside houseOutside hasZero sumOutside listMisfits seatsEveryState
+    seatsTooFew problemChecks allotRefusal seatsOf placeOf has before after
     allBetween ended lastByte withoutReturn lineOf restOf fieldOf fieldsAfter isNumber valueFrom valueOf isName isMethodField methodNamed
     methodField houseField countField isHead headRefused headSays headOf nameAt numberField numberAt isPair isStateLine isClosingLine usedIn
     stateRefusal closingRefusal noPopulations Register.refused accepts endOf closingOf statesFrom statesOf linesOf readingOf linesAfter

@@ -21,7 +21,7 @@ use Rattle.apportionment.specs.Leximin.{leximinFor, startTotal, gap, totalAfter
 use Rattle.claims.specs.inner.StartBounds.{gap-below-states}
 use Rattle.claims.specs.inner.LeximinSteps.{states-at-most-passed}
 use Rattle.claims.specs.inner.LeastOfAll.{LeastOfAll, leximin-least-of-all}
-use Rattle.problem.specs.Opening.{openRefusal}
+use Rattle.apportionment.specs.Allotment.{openRefusal}
 use Rattle.problem.specs.inner.Passed.{open-passed}
 use Rattle.leximin.specs.inner.Start.{ready-sound}
 use Rattle.placing.specs.Placing.{padded, placingAt, started, openedOf, steppedOf, refusedWith}

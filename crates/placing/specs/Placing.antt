@@ -10,7 +10,7 @@ use Rattle.apportionment.specs.Limits.{stateLimit}
 use Rattle.apportionment.specs.Refusals.{accepted, houseReached, placingForeign}
 use Rattle.apportionment.specs.Lists.{sameList}
 use Rattle.apportionment.specs.Leximin.{leximinFor, startSeats, startTotal, gap, totalAfter}
-use Rattle.problem.specs.Opening.{openRefusal}
+use Rattle.apportionment.specs.Allotment.{openRefusal}
 use Rattle.placing.specs.declared.Placing.{Placing}
 use Rattle.placing.specs.declared.Placed.{Placed}
 

@@ -1,9 +1,11 @@
 // The checks that allotting and opening share: refusals 10 to 15 of document 01, each given when its check is the first to fail.
-// None of them asks anything of its caller, so that a desk may hand on whatever it was lent.
+// Each check is a function of its own, true where it fails, and asks nothing of its caller, so that a desk may hand on whatever it was
+// lent.
 use apportionment::HOUSE_LIMIT;
 use apportionment::Method;
 use apportionment::STATE_LIMIT;
 use apportionment::SUM_LIMIT;
+use apportionment::outside;
 use apportionment::refusals::ACCEPTED;
 use apportionment::refusals::HOUSE_BELOW_STATES;
 use apportionment::refusals::HOUSE_OUT_OF_LIMITS;
@@ -12,11 +14,26 @@ use apportionment::refusals::SEAT_LIST_LENGTH;
 use apportionment::refusals::STATES_OUT_OF_LIMITS;
 use apportionment::refusals::SUM_TOO_LARGE;
 ghost use mathlib.Core.Path.{_≡_};
-ghost use Rattle.apportionment.specs.Allotment.{hasZero, problemRefusal, seatsEveryState, houseRefusal, allotRefusal};
+ghost use Rattle.apportionment.specs.Allotment.{statesOutside, houseOutside, hasZero, sumOutside, seatsEveryState, seatsTooFew};
+ghost use Rattle.apportionment.specs.Allotment.{allotRefusal, openRefusal};
 ghost use Rattle.problem.specs.inner.Total.{cappedTotal};
-ghost use Rattle.problem.specs.Opening.{openRefusal};
+ghost use Rattle.problem.specs.inner.Passed.{problemRefusal};
 
-// Some population is 0.
+// 10: the number of states is outside its limits.
+fn states_outside(populations: &[u64]) -> bool
+    ensures { λ r. ⌜ r ≡ statesOutside (now (populations .entry)) ⌝ }
+{
+    outside(STATE_LIMIT as u64, populations.len() as u64)
+}
+
+// 11: the house is outside its limits.
+fn house_outside(house: u64) -> bool
+    ensures { λ r. ⌜ r ≡ houseOutside house ⌝ }
+{
+    outside(HOUSE_LIMIT, house)
+}
+
+// 12: some population is 0.
 fn has_zero(populations: &[u64]) -> bool
     ensures { λ r. ⌜ r ≡ hasZero (now (populations .entry)) ⌝ }
 {
@@ -48,31 +65,11 @@ pub fn total_of(populations: &[u64]) -> u64
     total
 }
 
-// 10, 11, 12 or 13, or 0 where there is no refusal.
-pub fn problem_refusal(populations: &[u64], house: u64) -> u64
-    ensures { λ r. ⌜ r ≡ problemRefusal (now (populations .entry)) house ⌝ }
+// 13: the sum is too large.
+fn sum_outside(populations: &[u64]) -> bool
+    ensures { λ r. ⌜ r ≡ sumOutside (now (populations .entry)) ⌝ }
 {
-    if populations.len() == 0 {
-        return STATES_OUT_OF_LIMITS;
-    }
-    if STATE_LIMIT < populations.len() {
-        return STATES_OUT_OF_LIMITS;
-    }
-    if house == 0 {
-        return HOUSE_OUT_OF_LIMITS;
-    }
-    if HOUSE_LIMIT < house {
-        return HOUSE_OUT_OF_LIMITS;
-    }
-    let some_zero = has_zero(populations);
-    let total = total_of(populations);
-    if some_zero {
-        return POPULATION_ZERO;
-    }
-    if SUM_LIMIT < total {
-        return SUM_TOO_LARGE;
-    }
-    ACCEPTED
+    SUM_LIMIT < total_of(populations)
 }
 
 // The method gives every state a seat.
@@ -90,15 +87,31 @@ fn seats_every_state(method: Method) -> bool
     }
 }
 
-// 15 where the method gives every state a seat and the house has fewer seats than there are states; otherwise 0.
-fn house_refusal(method: Method, populations: &[u64], house: u64) -> u64
-    ensures { λ r. ⌜ r ≡ houseRefusal method (now (populations .entry)) house ⌝ }
+// 15: the house has fewer seats than there are states, under a method that gives each state one.
+fn seats_too_few(method: Method, populations: &[u64], house: u64) -> bool
+    ensures { λ r. ⌜ r ≡ seatsTooFew method (now (populations .entry)) house ⌝ }
 {
-    if !seats_every_state(method) {
-        return ACCEPTED;
+    if seats_every_state(method) {
+        return house < populations.len() as u64;
     }
-    if house < populations.len() as u64 {
-        return HOUSE_BELOW_STATES;
+    false
+}
+
+// 10, 11, 12 or 13, or 0 where there is no refusal.
+pub fn problem_refusal(populations: &[u64], house: u64) -> u64
+    ensures { λ r. ⌜ r ≡ problemRefusal (now (populations .entry)) house ⌝ }
+{
+    if states_outside(populations) {
+        return STATES_OUT_OF_LIMITS;
+    }
+    if house_outside(house) {
+        return HOUSE_OUT_OF_LIMITS;
+    }
+    if has_zero(populations) {
+        return POPULATION_ZERO;
+    }
+    if sum_outside(populations) {
+        return SUM_TOO_LARGE;
     }
     ACCEPTED
 }
@@ -114,7 +127,10 @@ pub fn allot_refusal(method: Method, house: u64, populations: &[u64], room: usiz
     if room != populations.len() {
         return SEAT_LIST_LENGTH;
     }
-    house_refusal(method, populations, house)
+    if seats_too_few(method, populations, house) {
+        return HOUSE_BELOW_STATES;
+    }
+    ACCEPTED
 }
 
 // The refusal of opening a placing: 10 to 13 or, as under leximin, 15; 0 where there is none.
@@ -125,5 +141,8 @@ pub fn open_refusal(populations: &[u64], house: u64) -> u64
     if refusal != ACCEPTED {
         return refusal;
     }
-    house_refusal(Method::Leximin, populations, house)
+    if seats_too_few(Method::Leximin, populations, house) {
+        return HOUSE_BELOW_STATES;
+    }
+    ACCEPTED
 }

@@ -8,7 +8,7 @@ use Rattle.apportionment.specs.Limits.{stateLimit}
 use Rattle.apportionment.specs.Refusals.{accepted, lineIllFormed, numberOutOfLimits}
 use Rattle.apportionment.specs.Lists.{sameList}
 use Rattle.apportionment.specs.Text.{bytesOf}
-use Rattle.apportionment.specs.Allotment.{within}
+use Rattle.apportionment.specs.Checks.{within}
 use Rattle.apportionment.specs.declared.Method.the-variants.{Leximin}
 use Rattle.fields.specs.Parts.{placeOf, has, before, after, allBetween}
 use Rattle.apportionment.specs.Methods.{methodText}

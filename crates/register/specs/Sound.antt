@@ -13,8 +13,6 @@ use lib.Seq.{getD-set-same, getD-set-other, getD-take, take-suc-set, length-take
 use Rattle.apportionment.specs.Limits.{stateLimit, houseLimit, sumLimit, registerLimit}
 use Rattle.apportionment.specs.Refusals.{accepted, lineIllFormed, registerTooLong}
 use Rattle.apportionment.specs.Lists.{sum}
-use Rattle.apportionment.specs.Allotment.{hasZero, problemRefusal}
-use Rattle.fields.specs.Tests.{within-true}
 use Rattle.fields.specs.Grammar.{restOf, isName}
 use Rattle.lines.specs.Lines.{head-sound, headOf, nameAt, numberAt, stateRefusal, state-sound, closingRefusal}
 use Rattle.register.specs.Register.{noPopulations, refused, accepts, endOf, closingOf, statesFrom, states-passed, statesOf, linesOf, readingOf}
@@ -205,28 +203,3 @@ pub name-there : (s : List ℕ) (i : ℕ) → readingOf s .refusal ≡ accepted 
     → nameOf s i ≡ nameAt (linesAfter i (restOf s))
 unfolding nameOf nameRefusalOf nameRefusalIn
 name-there s i good below = rw (eq-eqb (readingOf s .refusal) accepted good, lt-ltb i (readingOf s .states) below)
-
--- ---- allotting from a reading
-
-no-zero : (xs : List ℕ) → ((i : ℕ) → i < length xs → 1 ≤ getD xs i 0) → hasZero xs ≡ false
-unfolding hasZero
-no-zero [] each = refl
-no-zero (x ∷ xs) each =
-    rw (ne-eqb x 0 (λ e. absurd (omega (arith, each 0 (omega arith))))) (no-zero xs (λ i below. each (suc i) (omega arith)))
-
--- The populations and the house of a register that is read pass the checks that allotting and opening share.
-pub reading-passes : (r : Reading) → ReadingSound r → problemRefusal (take (r .states) (r .populations)) (r .house) ≡ accepted
-unfolding problemRefusal
-reading-passes r sound =
-    let so = sound .populations in
-    let all : length (take (r .states) (r .populations)) ≡ r .states =
-    length-take-le (r .states) (r .populations) (omega (arith, so .room, sound .states)) in
-    let each : (i : ℕ) → i < length (take (r .states) (r .populations)) → 1 ≤ getD (take (r .states) (r .populations)) i 0 =
-    λ i below. rw (getD-take (r .states) (r .populations) i 0 (omega arith)) (so .peopled i (omega arith)) in
-    rw (
-      all,
-      within-true stateLimit (r .states) (sound .states),
-      within-true houseLimit (r .house) (sound .house),
-      no-zero (take (r .states) (r .populations)) each,
-      le-leb (sum (take (r .states) (r .populations))) sumLimit (omega (arith, so .summed, so .limited)),
-    )

@@ -2,22 +2,23 @@
 -- state weighed, and the line of the one that moved.
 -- Assumes nothing.
 use mathlib.Core.Path.{_≡_, refl}
-use mathlib.Core.Bool.{Bool, true, false, cond, _||_}
+use mathlib.Core.Bool.{Bool, true, false, cond}
 use mathlib.Core.List.{List, [], _++_}
 use mathlib.Core.Option.{none, some, Option·elim}
 use Prim.Native.Nat.{ℕ, zero, suc, _+_, _-_, _*_, _<_, _≤_, min}
 use native.Mathlib.Nat.{pos-of-ne-zero}
 use native.Mathlib.Omega.{arith}
-use borrow.Author.Tests.{eqb-false, ltb-true}
+use borrow.Author.Tests.{eqb-true, eqb-false, ltb-true}
 use lib.Dec.{eqb, ltb}
 use lib.ListN.{length, getD, take, length-append}
 use lib.Seq.{getD-take}
 use Rattle.apportionment.specs.Limits.{stateLimit, houseLimit, sumLimit}
+use Rattle.apportionment.specs.Refusals.{accepted}
 use Rattle.apportionment.specs.Text.{bytesOf, decimal}
 use Rattle.apportionment.specs.Quantities.{shownOf, shownText}
 use Rattle.fields.specs.Grammar.{wordLimit}
-use Rattle.departure.specs.Answer.{departureShown, isRefused}
-use Rattle.departure.specs.inner.Answer.{neither, not-refused}
+use Rattle.departure.specs.Answer.{departureRefusal, departureShown}
+use Rattle.departure.specs.inner.Answer.{not-refused}
 use Rattle.lines.specs.Lines.{nameAt}
 use Rattle.register.specs.Names.{linesAfter}
 use Rattle.text.specs.inner.Bounds.{decimal-length, decimal-of-sum, decimal-of-house, decimal-of-states, numbers-length, total-line-length, lines-length}
@@ -87,15 +88,19 @@ decimal-of-seats n bound = decimal-length 4 n (omega arith)
 -- What is not refused is within the limits, so its departure is shown in nine bytes; what is refused or has no seat has `none`.
 departure-length : (p a P H : ℕ) → length (departureText p a P H) ≤ 9
 unfolding departureText departureShown Option·elim
-departure-length p a P H = by-test (isRefused p a P H || eqb a 0) refl
+departure-length p a P H = by-refusal (eqb (departureRefusal p a P H) accepted) refl
   where
-    by-test : (t : Bool) → (isRefused p a P H || eqb a 0) ≡ t
+    by-seats : (t : Bool) → eqb a 0 ≡ t → departureRefusal p a P H ≡ accepted
         → length (Option·elim (cond t none (some (shownOf p a P H))) (bytesOf "none") shownText) ≤ 9
-    by-test true bare = omega arith
-    by-test false seated =
-        let tests = neither (isRefused p a P H) (eqb a 0) seated in
-        let within = not-refused p a P H (tests .0) in
-        shown-room p a P H (pos-of-ne-zero (eqb-false a 0 (tests .1))) (within .some-total) (within .people-within) (within .house-limited)
+    by-seats true bare good = omega arith
+    by-seats false seated good =
+        let within = not-refused p a P H good in
+        shown-room p a P H (pos-of-ne-zero (eqb-false a 0 seated)) (within .some-total) (within .people-within) (within .house-limited)
+
+    by-refusal : (t : Bool) → eqb (departureRefusal p a P H) accepted ≡ t
+        → length (Option·elim (cond t (cond (eqb a 0) none (some (shownOf p a P H))) none) (bytesOf "none") shownText) ≤ 9
+    by-refusal true good = by-seats (eqb a 0) refl (eqb-true (departureRefusal p a P H) accepted good)
+    by-refusal false bad = omega arith
 
 -- ---- the lines of the start and the end
 

@@ -20,7 +20,7 @@ use Rattle.apportionment.specs.Leximin.{leximinFor, startTotal, gap, totalAfter
 use Rattle.claims.specs.inner.StartBounds.{gap-below-states}
 use Rattle.claims.specs.inner.LeximinSteps.{states-at-most-passed}
 use Rattle.claims.specs.inner.LeastOfAll.{leximin-least-of-all}
-use Rattle.problem.specs.Opening.{openRefusal}
+use Rattle.apportionment.specs.Allotment.{openRefusal}
 use Rattle.problem.specs.inner.Passed.{OpenPassed, open-passed}
 use Rattle.leximin.specs.inner.Start.{ready-sound}
 use Rattle.fields.specs.Grammar.{wordLimit, restOf, name-length}

@@ -10,17 +10,17 @@ use Rattle.departure.proofs.Signed.{read-back}
 use Rattle.departure.proofs.departure_of.Statement.{statement}
 use Rattle.departure.proofs.departure_of.Tie as tie
 
-refused-requires : tie.Need-refused-requires
-refused-requires c κs = search needs
+departure-refusal-requires : tie.Need-departure-refusal-requires
+departure-refusal-requires c κs = search needs
 
 returns : tie.Need-returns
-returns c = refused-answer _ _ _ _ (sym (c .before .refused .ensures) ∙ c .if1 .taken)
+returns c = refused-answer _ _ _ _ (λ good. c .if1 .taken (c .before .departure-refusal .ensures ∙ good))
 
 returns-2 : tie.Need-returns-2
-returns-2 c = unseated-answer _ _ _ _ (sym (c .before .before .refused .ensures) ∙ c .before .if1 .left) (c .if2 .taken)
+returns-2 c = unseated-answer _ _ _ _ (sym (c .before .before .departure-refusal .ensures) ∙ c .before .if1 .left) (c .if2 .taken)
 
 of-requires : tie.Need-of-requires
-of-requires c κs = not-refused _ _ _ _ (sym (c .before .before .refused .ensures) ∙ c .before .if1 .left)
+of-requires c κs = not-refused _ _ _ _ (sym (c .before .before .departure-refusal .ensures) ∙ c .before .if1 .left)
 
 hundredths-requires : tie.Need-hundredths-requires
 hundredths-requires c κs =
@@ -41,13 +41,13 @@ returns-3 c =
       exact-shown,
       exact-size,
     )
-    (seated-answer _ _ _ _ (sym (seated .before .before .refused .ensures) ∙ seated .before .if1 .left) (seated .if2 .left))
+    (seated-answer _ _ _ _ (sym (seated .before .before .departure-refusal .ensures) ∙ seated .before .if1 .left) (seated .if2 .left))
 
 pub departure-of-spec : {M : Type 1} → statement M
 departure-of-spec =
     tie.close
     (tie.spec
-    refused-requires
+    departure-refusal-requires
     returns
     returns-2
     of-requires

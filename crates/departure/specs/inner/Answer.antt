@@ -1,20 +1,24 @@
--- Laws of what Answer.antt defines, which proofs cite.
+-- The departure operation: its promise leaves one answer for each input, which answer that is in each case, and that it is refused exactly
+-- outside the limits.
 -- Assumes nothing.
-use mathlib.Core.Path.{_≡_, refl}
-use mathlib.Core.Bool.{Bool, true, false, cond, _||_}
+use mathlib.Core.Path.{_≡_, refl, sym}
+use mathlib.Core.Bool.{Bool, true, false, cond}
 use mathlib.Core.Logic.{_↔_}
 use Prim.Native.Nat.{ℕ, _*_, _<_, _≤_}
-use native.Mathlib.Nat.{mul-le-mul, mul-pos, le-trans, le-refl, pos-of-ne-zero}
+use native.Mathlib.Nat.{mul-le-mul, mul-pos, le-trans, le-refl}
 use native.Mathlib.Omega.{arith}
 use lib.Dec.{eqb, ltb}
-use borrow.Author.Tests.{eqb-false, ltb-false, le-ltb, eq-eqb, ne-eqb}
+use borrow.Author.Tests.{ltb-false, le-ltb, eq-eqb, ne-eqb}
 use Rattle.apportionment.specs.Limits.{houseLimit, sumLimit}
 use Rattle.apportionment.specs.Refusals.{accepted, departureOutOfLimits}
+use Rattle.apportionment.specs.Checks.{outside, firstRefusal}
+use Rattle.apportionment.specs.inner.Checks.{check-passed, inside-limits, inside-false}
 use Rattle.apportionment.specs.Quantities.{distance, markOf, shownOf, sizeOf}
 use Rattle.departure.specs.declared.Answer.{Answer}
 use Rattle.departure.specs.declared.Answer.the-variants.{Refused, NoSeats, Shown}
 use Rattle.departure.specs.inner.Exact.{Moderate}
-use Rattle.departure.specs.Answer.{isOutside, isRefused, departureRefusal, departureShown, departureMark, numberOf, shownIn, markIn, AnswerIs}
+use Rattle.departure.specs.Answer.{departureChecks, departureRefusal, departureShown, departureMark}
+use Rattle.departure.specs.Answer.{numberOf, shownIn, markIn, AnswerIs}
 
 -- ---- what the operation promises
 
@@ -35,25 +39,6 @@ same-answer (Shown h m) (Shown k n) number shown mark = cc
 pub one-answer : (p a P H : ℕ) (r s : Answer) → AnswerIs p a P H r → AnswerIs p a P H s → r ≡ s
 one-answer p a P H r s first second = same-answer r s (cc) (cc) (cc)
 
--- Which answer that is.
-module _ (p a P H : ℕ) where
-  pub refused-answer : isRefused p a P H ≡ true → AnswerIs p a P H Refused
-  unfolding numberOf shownIn markIn departureRefusal departureShown departureMark
-  refused-answer tested = record { number = simp tested; shown = simp tested; mark = simp tested }
-
-  pub unseated-answer : isRefused p a P H ≡ false → a ≡ 0 → AnswerIs p a P H NoSeats
-  unfolding numberOf shownIn markIn departureRefusal departureShown departureMark
-  unseated-answer tested unseated =
-      let bare = eq-eqb a 0 unseated in
-      record { number = simp tested; shown = simp (tested, bare); mark = simp (tested, bare) }
-
-  pub seated-answer : isRefused p a P H ≡ false → (a ≡ 0 → ⊥)
-      → AnswerIs p a P H (Shown (shownOf p a P H) (markOf (sizeOf p a P H)))
-  unfolding numberOf shownIn markIn departureRefusal departureShown departureMark
-  seated-answer tested seated =
-      let some-seat = ne-eqb a 0 seated in
-      record { number = simp tested; shown = simp (tested, some-seat); mark = simp (tested, some-seat) }
-
 -- ---- the limits
 
 -- P and H within their limits, p within 1 to P, and a at most H.
@@ -66,68 +51,85 @@ pub record InLimits (p a P H : ℕ) : Type 0 where
   pub people-within : p ≤ P
   pub seats-within : a ≤ H
 
--- Where a disjunction fails, both its tests do.
-pub neither : (s t : Bool) → (s || t) ≡ false → (s ≡ false) × (t ≡ false)
-neither true t e = (e, cc)
-neither false t e = (refl, e)
-
-inside : (n most : ℕ) → isOutside n most ≡ false → (0 < n) × (n ≤ most)
-unfolding isOutside
-inside n most e =
-    let tests = neither (eqb n 0) (ltb most n) e in
-    (pos-of-ne-zero (eqb-false n 0 (tests .0)), ltb-false most n (tests .1))
-
 -- What is not refused is within the limits.
-pub not-refused : (p a P H : ℕ) → isRefused p a P H ≡ false → InLimits p a P H
-unfolding isRefused
+pub not-refused : (p a P H : ℕ) → departureRefusal p a P H ≡ accepted → InLimits p a P H
+unfolding departureRefusal departureChecks
 not-refused p a P H e =
-    let first = neither (isOutside P sumLimit) _ e in
-    let second = neither (isOutside H houseLimit) _ (first .1) in
-    let third = neither (isOutside p P) _ (second .1) in
+    let total = check-passed (outside sumLimit P) _ _ (omega arith) e in
+    let house = check-passed (outside houseLimit H) _ _ (omega arith) (total .1) in
+    let people = check-passed (outside P p) _ _ (omega arith) (house .1) in
+    let seats = check-passed (ltb H a) _ _ (omega arith) (people .1) in
     record {
-      some-total = inside P sumLimit (first .0) .0;
-      total-limited = inside P sumLimit (first .0) .1;
-      some-house = inside H houseLimit (second .0) .0;
-      house-limited = inside H houseLimit (second .0) .1;
-      some-people = inside p P (third .0) .0;
-      people-within = inside p P (third .0) .1;
-      seats-within = ltb-false H a (third .1);
+      some-total = inside-limits sumLimit P (total .0) .0;
+      total-limited = inside-limits sumLimit P (total .0) .1;
+      some-house = inside-limits houseLimit H (house .0) .0;
+      house-limited = inside-limits houseLimit H (house .0) .1;
+      some-people = inside-limits P p (people .0) .0;
+      people-within = inside-limits P p (people .0) .1;
+      seats-within = ltb-false H a (seats .0);
     }
 
 -- What is within the limits is not refused.
-within-not-refused : (p a P H : ℕ) → InLimits p a P H → isRefused p a P H ≡ false
-unfolding isRefused isOutside
+within-not-refused : (p a P H : ℕ) → InLimits p a P H → departureRefusal p a P H ≡ accepted
+unfolding departureRefusal departureChecks firstRefusal
 within-not-refused p a P H within =
     simp (
-      ne-eqb P 0 (omega arith),
-      le-ltb sumLimit P (within .total-limited),
-      ne-eqb H 0 (omega arith),
-      le-ltb houseLimit H (within .house-limited),
-      ne-eqb p 0 (omega arith),
-      le-ltb P p (within .people-within),
+      inside-false sumLimit P (within .some-total, within .total-limited),
+      inside-false houseLimit H (within .some-house, within .house-limited),
+      inside-false P p (within .some-people, within .people-within),
       le-ltb H a (within .seats-within),
     )
 
+-- A refusal is 30: no other number is given.
+pub refused-is-30 : (p a P H : ℕ) → (departureRefusal p a P H ≡ accepted → ⊥) → departureRefusal p a P H ≡ departureOutOfLimits
+unfolding departureRefusal departureChecks firstRefusal
+refused-is-30 p a P H = by-tests (outside sumLimit P) (outside houseLimit H) (outside P p) (ltb H a)
+  where
+    by-tests : (s t u v : Bool)
+        → (cond s departureOutOfLimits (cond t departureOutOfLimits (cond u departureOutOfLimits
+        (cond v departureOutOfLimits accepted))) ≡ accepted → ⊥)
+        → cond s departureOutOfLimits (cond t departureOutOfLimits (cond u departureOutOfLimits
+        (cond v departureOutOfLimits accepted))) ≡ departureOutOfLimits
+    by-tests true t u v refused = refl
+    by-tests false true u v refused = refl
+    by-tests false false true v refused = refl
+    by-tests false false false true refused = refl
+    by-tests false false false false refused = absurd (refused refl)
+
 -- So the refusal number is 0 exactly within the limits ..
 pub accepted-exactly : (p a P H : ℕ) → departureRefusal p a P H ≡ accepted ↔ InLimits p a P H
-unfolding departureRefusal
-accepted-exactly p a P H =
-    (λ e. not-refused p a P H (by (isRefused p a P H) e), λ within. simp (within-not-refused p a P H within))
-  where
-    by : (t : Bool) → cond t departureOutOfLimits accepted ≡ accepted → t ≡ false
-    by true e = cc
-    by false e = refl
+accepted-exactly p a P H = (not-refused p a P H, within-not-refused p a P H)
 
 -- .. and 30 exactly outside them.
 pub refused-exactly : (p a P H : ℕ) → departureRefusal p a P H ≡ departureOutOfLimits ↔ (InLimits p a P H → ⊥)
-unfolding departureRefusal
 refused-exactly p a P H =
-    (λ e within. omega (arith, e, accepted-exactly p a P H .1 within), λ outside. by (isRefused p a P H) refl outside)
-  where
-    by : (t : Bool) → isRefused p a P H ≡ t → (InLimits p a P H → ⊥)
-        → cond t departureOutOfLimits accepted ≡ departureOutOfLimits
-    by true tested outside = refl
-    by false tested outside = absurd (outside (not-refused p a P H tested))
+    (λ e within. omega (arith, e, within-not-refused p a P H within), λ outside. refused-is-30 p a P H (λ e. outside (not-refused p a P H e)))
+
+-- ---- which answer is promised
+
+module _ (p a P H : ℕ) where
+  pub refused-answer : (departureRefusal p a P H ≡ accepted → ⊥) → AnswerIs p a P H Refused
+  unfolding numberOf shownIn markIn departureShown departureMark
+  refused-answer refused =
+      let no = ne-eqb (departureRefusal p a P H) accepted refused in
+      record { number = sym (refused-is-30 p a P H refused); shown = simp no; mark = simp no }
+
+  pub unseated-answer : departureRefusal p a P H ≡ accepted → a ≡ 0 → AnswerIs p a P H NoSeats
+  unfolding numberOf shownIn markIn departureShown departureMark
+  unseated-answer good unseated =
+      let yes = eq-eqb (departureRefusal p a P H) accepted good in
+      let bare = eq-eqb a 0 unseated in
+      record { number = sym good; shown = simp (yes, bare); mark = simp (yes, bare) }
+
+  pub seated-answer : departureRefusal p a P H ≡ accepted → (a ≡ 0 → ⊥)
+      → AnswerIs p a P H (Shown (shownOf p a P H) (markOf (sizeOf p a P H)))
+  unfolding numberOf shownIn markIn departureShown departureMark
+  seated-answer good seated =
+      let yes = eq-eqb (departureRefusal p a P H) accepted good in
+      let some-seat = ne-eqb a 0 seated in
+      record { number = sym good; shown = simp (yes, some-seat); mark = simp (yes, some-seat) }
+
+-- ---- what 64 bits can hold
 
 -- The two products of a departure within the limits ..
 module _ {p a P H : ℕ} (within : InLimits p a P H) where

@@ -23,6 +23,7 @@ use native.Mathlib.Omega.{arith}
 use lib.IntN.{ℤ, pos, negsuc, negℤ}
 use borrow.Author.Tests.{ltb-true}
 use Rattle.apportionment.specs.Limits.{houseLimit}
+use Rattle.apportionment.specs.Checks.{within, outside, firstRefusal}
 use Rattle.apportionment.specs.Quantities.{
   atMost,
   distance,
@@ -38,7 +39,7 @@ use Rattle.apportionment.specs.declared.Mark.the-variants.{In, High, Over}
 use Rattle.departure.specs.declared.Answer.{Answer}
 use Rattle.departure.specs.declared.Answer.the-variants.{Refused, NoSeats, Shown}
 use Rattle.departure.specs.inner.Answer.{InLimits}
-use Rattle.departure.specs.Answer.{departureMark, departureRefusal, departureShown, isOutside, isRefused, markIn, numberOf, shownIn}
+use Rattle.departure.specs.Answer.{departureChecks, departureMark, departureRefusal, departureShown, markIn, numberOf, shownIn}
 
 -- ---- zero
 
@@ -163,6 +164,6 @@ atTheEdges =
 
 -- Each input gives what is wanted: antt computes them.
 pub edges-hold : map given atTheEdges ≡ map wanted atTheEdges
-unfolding given wanted atTheEdges departureRefusal departureShown departureMark numberOf shownIn markIn isRefused isOutside
+unfolding given wanted atTheEdges departureRefusal departureShown departureMark numberOf shownIn markIn departureChecks firstRefusal outside within
     shownOf isBelow hundredthsOf sizeOf distance nearestWhole markOf atMost
 edges-hold = refl

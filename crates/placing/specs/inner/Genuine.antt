@@ -14,7 +14,8 @@ use lib.ListN.{length, getD, List·getD-eq-default}
 use Rattle.apportionment.specs.Limits.{houseLimit, sumLimit}
 use Rattle.apportionment.specs.Lists.{sum}
 use Rattle.apportionment.specs.inner.Lists.{entry-at-most-sum}
-use Rattle.apportionment.specs.Allotment.{within}
+use Rattle.apportionment.specs.Checks.{within}
+use Rattle.apportionment.specs.inner.Checks.{within-limits, within-true}
 use Rattle.apportionment.specs.Quantities.{distance}
 use Rattle.apportionment.specs.Leximin.{leximinFor, startSeats, startTotal, gap, totalAfter}
 use Rattle.claims.specs.inner.Order.{Standing, endsApart}
@@ -25,7 +26,7 @@ use Rattle.claims.specs.inner.SizeShape.{le-or-lt}
 use Rattle.problem.specs.inner.Total.{cappedTotal, total-is-sum, total-past-limit}
 use Rattle.leximin.specs.inner.Scan.{Seated}
 use Rattle.leximin.specs.inner.Start.{Ready, ready-counts, ready-sound, start-within-house, start-total-fits}
-use Rattle.placing.specs.inner.Lists.{eachWithin, within-yes, within-bounds}
+use Rattle.placing.specs.inner.Lists.{eachWithin}
 
 pub and-both : (a b : Bool) → a && b ≡ true → (a ≡ true) × (b ≡ true)
 and-both true b e = (refl, e)
@@ -71,7 +72,7 @@ each-within-at limit (x ∷ xs) e i h = by-head (within limit x) refl (each-with
     by-head : (t : Bool) → within limit x ≡ t
         → (eachWithin limit xs ≡ true → (k : ℕ) → k < length xs → (1 ≤ getD xs k 0) × (getD xs k 0 ≤ limit))
         → (k : ℕ) → k < length (x ∷ xs) → (1 ≤ getD (x ∷ xs) k 0) × (getD (x ∷ xs) k 0 ≤ limit)
-    by-head true w rest zero l = within-bounds limit x w
+    by-head true w rest zero l = within-limits limit x w
     by-head true w rest (suc k) l = rest (rw w at e) k (le-of-suc-le-suc l)
     by-head false w rest k l = absurd (false≢true (rw w at e))
 
@@ -82,7 +83,7 @@ unfolding eachWithin
 all-within limit [] all = refl
 all-within limit (x ∷ xs) all =
     let here : (1 ≤ x) × (x ≤ limit) = all 0 (suc-le-suc zero-le) in
-    rw (within-yes limit x (λ e. omega arith) (here .1)) (all-within limit xs (λ i h. all (suc i) (suc-le-suc h)))
+    rw (within-true limit x here) (all-within limit xs (λ i h. all (suc i) (suc-le-suc h)))
 
 pub seats-seated : {ps xs : List ℕ} {P H : ℕ} → Ready ps P H → length xs ≡ length ps → eachWithin H xs ≡ true → Seated ps xs P H
 seats-seated {ps} {xs} {P} {H} r same e =

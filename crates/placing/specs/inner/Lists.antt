@@ -10,9 +10,9 @@ use native.Mathlib.Nat.{sub-zero, zero-sub, suc-sub-suc}
 use lib.Dec.{eqb}
 use lib.ListN.{length, getD, take, drop, replicate, take-append-drop, length-drop, length-replicate, length-append, drop-of-length-le}
 use lib.Seq.{drop-cons, length-take-le, take-append-seam, drop-append-seam}
-use borrow.Author.Tests.{eqb-true, eqb-false, eq-eqb, ne-eqb, leb-true, le-leb, lt-leb}
+use borrow.Author.Tests.{eqb-true, eqb-false, eq-eqb, ne-eqb}
 use Rattle.apportionment.specs.Limits.{stateLimit}
-use Rattle.apportionment.specs.Allotment.{within}
+use Rattle.apportionment.specs.Checks.{within}
 use Rattle.placing.specs.Placing.{padded}
 
 -- Every number is 0.
@@ -55,28 +55,6 @@ beyond-found limit xs i h e = rw (drop-cons xs i 0 h, e)
 pub within-end : (limit : ℕ) (xs : List ℕ) (i : ℕ) → length xs ≤ i → eachWithin limit (drop i xs) ≡ true
 unfolding eachWithin
 within-end limit xs i h = rw drop-of-length-le
-
--- ---- a number within a limit
-
-pub within-yes : (limit x : ℕ) → (x ≡ 0 → ⊥) → x ≤ limit → within limit x ≡ true
-unfolding within
-within-yes limit x some h = rw (ne-eqb x 0 some, le-leb x limit h)
-
-pub zero-not-within : (limit x : ℕ) → x ≡ 0 → within limit x ≡ false
-unfolding within
-zero-not-within limit x e = rw (eq-eqb x 0 e)
-
-pub beyond-not-within : (limit x : ℕ) → limit < x → within limit x ≡ false
-unfolding within
-beyond-not-within limit x h = rw (ne-eqb x 0 (λ e. omega arith), lt-leb x limit h)
-
-pub within-bounds : (limit x : ℕ) → within limit x ≡ true → (1 ≤ x) × (x ≤ limit)
-unfolding within
-within-bounds limit x e = by-zero (eqb x 0) refl
-  where
-    by-zero : (t : Bool) → eqb x 0 ≡ t → (1 ≤ x) × (x ≤ limit)
-    by-zero true z = absurd (false≢true (rw z at e))
-    by-zero false z = (omega (arith, eqb-false x 0 z), leb-true x limit (rw z at e))
 
 -- ---- lists filled up with 0
 

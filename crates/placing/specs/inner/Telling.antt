@@ -13,7 +13,7 @@ use Rattle.apportionment.specs.Refusals.{accepted}
 use Rattle.apportionment.specs.Lists.{sum, sameList}
 use Rattle.apportionment.specs.inner.Lists.{same-list-self, same-list-equal}
 use Rattle.apportionment.specs.Leximin.{leximinFor, gap, totalAfter}
-use Rattle.problem.specs.Opening.{openRefusal}
+use Rattle.apportionment.specs.Allotment.{openRefusal}
 use Rattle.problem.specs.inner.Passed.{OpenPassed, open-passed}
 use Rattle.problem.specs.inner.Total.{cappedTotal, total-is-sum}
 use Rattle.leximin.specs.inner.Start.{Ready}

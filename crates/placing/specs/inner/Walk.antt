@@ -16,7 +16,7 @@ use Rattle.apportionment.specs.Leximin.{leximinFor, startTotal, gap, totalAfter
 use Rattle.apportionment.specs.Allotment.{seatsOf, stepsOf}
 use Rattle.apportionment.specs.declared.Method.the-variants.{Leximin}
 use Rattle.claims.specs.inner.LeximinSteps.{no-step-made, moved-leximin, total-at-gap}
-use Rattle.problem.specs.Opening.{openRefusal}
+use Rattle.apportionment.specs.Allotment.{openRefusal}
 use Rattle.problem.specs.inner.Passed.{OpenPassed, open-passed}
 use Rattle.leximin.specs.inner.Start.{ready-sound}
 use Rattle.placing.specs.Placing.{padded, started, placingAt, peopleOf, refusedWith, steppedOf}

@@ -1,12 +1,12 @@
 -- The sum of populations as the code adds it up: exact up to the limit and, beyond it, one more than the limit, so that it is
 -- known for any numbers at all.
 -- Assumes nothing.
-use mathlib.Core.Path.{_≡_, refl}
+use mathlib.Core.Path.{_≡_, refl, sym}
 use mathlib.Core.Bool.{Bool, true, false, cond}
 use mathlib.Core.List.{List}
 use Prim.Native.Nat.{ℕ, _+_, _≤_, _<_}
-use lib.Dec.{leb}
-use borrow.Author.Tests.{le-leb, lt-leb}
+use lib.Dec.{ltb, leb}
+use borrow.Author.Tests.{leb-false, lt-ltb, le-leb, lt-leb}
 use Rattle.apportionment.specs.Limits.{sumLimit}
 use Rattle.apportionment.specs.Lists.{sum}
 
@@ -23,11 +23,11 @@ pub total-past-limit : (ps : List ℕ) → sumLimit < sum ps → cappedTotal ps 
 unfolding cappedTotal
 total-past-limit ps h = simp (lt-leb (sum ps) sumLimit h)
 
--- It is within the limit exactly if the sum is.
-pub total-tells : (ps : List ℕ) → leb (cappedTotal ps) sumLimit ≡ leb (sum ps) sumLimit
+-- It passes the limit exactly if the sum does.
+pub total-tells : (ps : List ℕ) → ltb sumLimit (cappedTotal ps) ≡ ltb sumLimit (sum ps)
 unfolding cappedTotal
 total-tells ps = by-test (leb (sum ps) sumLimit) refl
   where
-    by-test : (t : Bool) → leb (sum ps) sumLimit ≡ t → leb (cond t (sum ps) (sumLimit + 1)) sumLimit ≡ t
-    by-test true e = e
-    by-test false e = refl
+    by-test : (t : Bool) → leb (sum ps) sumLimit ≡ t → ltb sumLimit (cond t (sum ps) (sumLimit + 1)) ≡ ltb sumLimit (sum ps)
+    by-test true e = refl
+    by-test false e = sym (lt-ltb sumLimit (sum ps) (leb-false (sum ps) sumLimit e))

@@ -1,7 +1,7 @@
 -- `within` makes the definition's two tests.
 -- Assumes nothing.
 use borrow.Author.Tests.{eq-eqb, ne-eqb}
-use Rattle.apportionment.specs.Allotment.{within}
+use Rattle.apportionment.specs.Checks.{within}
 use Rattle.fields.proofs.numbers.within.Statement.{statement}
 use Rattle.fields.proofs.numbers.within.Tie as tie
 

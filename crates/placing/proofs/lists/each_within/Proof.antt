@@ -2,9 +2,11 @@
 -- Assumes nothing.
 use borrow.Author.Needs.{needs}
 use Prim.Native.Nat.{_-_}
+use native.Mathlib.Nat.{pos-of-ne-zero}
 use mathlib.Core.Path.{_≡_, refl, sym, _∙_}
 use lib.ListN.{length, drop}
-use Rattle.placing.specs.inner.Lists.{eachWithin, within-next, beyond-found, within-end, within-yes, zero-not-within, beyond-not-within}
+use Rattle.apportionment.specs.inner.Checks.{within-true, zero-not-within, beyond-not-within}
+use Rattle.placing.specs.inner.Lists.{eachWithin, within-next, beyond-found, within-end}
 use Rattle.placing.proofs.lists.each_within.Statement.{statement}
 use Rattle.placing.proofs.lists.each_within.Tie as tie
 
@@ -52,7 +54,7 @@ loop-again c =
     let at-if1 = c .before .before in
     let at-test = at-if1 .before .before in
     let at-loop = at-test .before in
-    at-loop .loop .inv ∙ within-next _ _ _ (at-test .loop-test .taken) (within-yes _ _ (at-if1 .if1 .left) (c .if2 .left))
+    at-loop .loop .inv ∙ within-next _ _ _ (at-test .loop-test .taken) (within-true _ _ (pos-of-ne-zero (at-if1 .if1 .left), c .if2 .left))
 
 returns-3 : tie.Need-returns-3 Inv-loop μ-loop
 returns-3 c = sym (c .before .loop .inv ∙ within-end _ _ _ (c .loop-test .left))
