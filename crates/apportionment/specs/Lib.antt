@@ -10,5 +10,4 @@ pub mod Leximin
 pub mod Divisor
 pub mod Remainders
 pub mod Allotment
-pub mod Examples
 pub mod inner

@@ -1,0 +1,2 @@
+-- Beside the proofs of the functions, the starred examples.
+pub mod Examples
