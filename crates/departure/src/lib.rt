@@ -62,8 +62,8 @@ impl Departure {
     pub fn at_most(self, limit: Departure) -> bool
         ensures { λ r. ⌜ r ≡ atMost (size self) (size limit) ⌝ }
     {
-        let own = magnitude(self.numerator);
-        let most = magnitude(limit.numerator);
+        let own = wide::magnitude(self.numerator);
+        let most = wide::magnitude(limit.numerator);
         !wide::product_less(most, self.denominator, own, limit.denominator)
     }
 
@@ -86,7 +86,7 @@ impl Departure {
         ensures { λ r. ⌜ r ≡ shown self ⌝ }
     {
         let numerator = self.numerator;
-        let rounded = nearest(magnitude(numerator), self.denominator);
+        let rounded = nearest(wide::magnitude(numerator), self.denominator);
         with_sign(numerator, rounded)
     }
 }
@@ -147,13 +147,6 @@ fn difference(x: u64, y: u64) -> i64
     ensures { λ r. ⌜ r ≡ pos x -ℤ pos y ⌝ }
 {
     x as i64 - y as i64
-}
-
-// A number without its sign. For every number, the least one too: -1 - n fits where -n does not.
-pub fn magnitude(n: i64) -> u64
-    ensures { λ r. ⌜ r ≡ natAbs n ⌝ }
-{
-    if n < 0 { (-1 - n) as u64 + 1 } else { n as u64 }
 }
 
 // A number with the sign of another; zero stays zero.

@@ -69,7 +69,7 @@ fn write_shown(hundredths: i64) {
     if hundredths < 0 {
         io::write_all(STDOUT_FILENO, b"-");
     }
-    let size = departure::magnitude(hundredths);
+    let size = wide::magnitude(hundredths);
     io::print_decimal(STDOUT_FILENO, size / 100);
     io::write_all(STDOUT_FILENO, b".");
     io::print_decimal(STDOUT_FILENO, size / 10 % 10);

@@ -7,7 +7,6 @@ ghost use mathlib.Core.Path.{_≡_};
 ghost use mathlib.Core.List.{_∷_, []};
 ghost use Prim.Native.Nat.{_+_, _<_, _≤_};
 ghost use lib.Dec.{leb};
-ghost use lib.IntN.{natAbs};
 ghost use lib.ListN.{length};
 ghost use Rattle.apportionment.specs.Text.{decimal, digit};
 ghost use Rattle.apportionment.specs.Methods.{methodText};
@@ -85,21 +84,11 @@ pub fn put_hundredths(out: &mut [u8], at: usize, h: u64) -> usize
     put_digit(out, tenth, h % 10)
 }
 
-// The size of a signed number. The least i64 has no opposite, so that of a negative one is one more than its successor's.
-fn size_of(z: i64) -> u64
-    ensures { λ r. ⌜ r ≡ natAbs z ⌝ }
-{
-    if z < 0 {
-        return (-(z + 1)) as u64 + 1;
-    }
-    z as u64
-}
-
 // A shown departure, in hundredths of a per cent: a minus sign below zero, no plus sign.
 pub fn put_shown(out: &mut [u8], at: usize, h: i64) -> usize
     ensures { λ r. ⌜ Wrote (now (out .entry)) at (shownText h) (now (out .exit)) r ⌝ }
 {
-    let size = size_of(h);
+    let size = wide::magnitude(h);
     if h < 0 {
         let sign = put_byte(out, at, b'-');
         return put_hundredths(out, sign, size);

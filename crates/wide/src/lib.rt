@@ -1,8 +1,10 @@
-// The layer of wide products: products of two 64-bit numbers compared exactly, where one word cannot hold them.
+// The layer of exact arithmetic at the edges of a word: products of two 64-bit numbers compared where one word cannot hold them, and the
+// size of a signed number.
 ghost use mathlib.Core.Path.{_≡_};
 ghost use mathlib.Core.Bool.{true};
 ghost use Prim.Native.Nat.{_+_, _*_, _^_, _<_};
 ghost use lib.Dec.{ltb};
+ghost use lib.IntN.{natAbs};
 
 // Half a word: a number is split into two digits of base 2^32.
 const HALF: u64 = 4_294_967_296;
@@ -64,4 +66,11 @@ pub fn product_less(a: u64, b: u64, c: u64, d: u64) -> bool
         }
     }
     wide_less(a, b, c, d)
+}
+
+// A number without its sign. For every number, the least one too: -1 - n fits where -n does not.
+pub fn magnitude(n: i64) -> u64
+    ensures { λ r. ⌜ r ≡ natAbs n ⌝ }
+{
+    if n < 0 { (-1 - n) as u64 + 1 } else { n as u64 }
 }

@@ -6,7 +6,7 @@ use native.Mathlib.Nat.{pos-of-ne-zero}
 use borrow.Author.Needs.{needs}
 use Rattle.departure.specs.inner.Answer.{moderate-size, not-refused, refused-answer, seated-answer, unseated-answer}
 use Rattle.departure.specs.inner.Exact.{exact-shown, exact-size}
-use Rattle.departure.proofs.Signed.{read-back}
+use Rattle.wide.proofs.Signed.{read-back}
 use Rattle.departure.proofs.departure_of.Statement.{statement}
 use Rattle.departure.proofs.departure_of.Tie as tie
 

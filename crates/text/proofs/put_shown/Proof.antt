@@ -9,8 +9,8 @@ use Rattle.text.specs.inner.Writing.{wrote-then}
 use Rattle.text.proofs.put_shown.Statement.{statement}
 use Rattle.text.proofs.put_shown.Tie as tie
 
-size-of-requires : tie.Need-size-of-requires
-size-of-requires c κs = search needs
+magnitude-requires : tie.Need-magnitude-requires
+magnitude-requires c κs = search needs
 
 put-byte-requires : tie.Need-put-byte-requires
 put-byte-requires c κs = search needs
@@ -26,9 +26,9 @@ returns c =
     let at-put-hundredths = c .before .before in
     let at-put-byte = at-put-hundredths .before .before .before .before in
     let at-if1 = at-put-byte .before .before in
-    let at-size-of = at-if1 .before in
-    let start = at-size-of .before .before in
-    let size = at-size-of .size-of .ensures ∙ ap natAbs (toZ-ofZ (start .fits .h)) in
+    let at-magnitude = at-if1 .before in
+    let start = at-magnitude .before .before in
+    let size = at-magnitude .magnitude .ensures ∙ ap natAbs (toZ-ofZ (start .fits .h)) in
     rw
     (shown-below (start .args .h) (rw (toZ-ofZ (start .fits .h)) at (at-if1 .if1 .taken)), ← size)
     (wrote-then (at-put-byte .put-byte .ensures) (at-put-hundredths .put-hundredths .ensures))
@@ -43,9 +43,9 @@ returns-2 : tie.Need-returns-2
 returns-2 c =
     let at-put-hundredths2 = c .before .before in
     let at-if1 = at-put-hundredths2 .before .before in
-    let at-size-of = at-if1 .before in
-    let start = at-size-of .before .before in
-    let size = at-size-of .size-of .ensures ∙ ap natAbs (toZ-ofZ (start .fits .h)) in
+    let at-magnitude = at-if1 .before in
+    let start = at-magnitude .before .before in
+    let size = at-magnitude .magnitude .ensures ∙ ap natAbs (toZ-ofZ (start .fits .h)) in
     rw
     (shown-above (start .args .h) (rw (toZ-ofZ (start .fits .h)) at (at-if1 .if1 .left)), ← size)
     (at-put-hundredths2 .put-hundredths2 .ensures)
@@ -54,7 +54,7 @@ pub put-shown-spec : {M : Type 1} → statement M
 put-shown-spec =
     tie.close
     (tie.spec
-    size-of-requires
+    magnitude-requires
     put-byte-requires
     put-hundredths-requires
     same-length

@@ -8,7 +8,7 @@ use borrow.Author.Needs.{needs}
 use borrow.Author.Tests.{ltb-true, ltb-false, le-leb, lt-leb}
 use Rattle.apportionment.specs.Quantities.{Fraction, atMost, less}
 use Rattle.departure.specs.inner.Exact.{size}
-use Rattle.departure.proofs.Signed.{read-back}
+use Rattle.wide.proofs.Signed.{read-back}
 use Rattle.departure.proofs.Departure.at_most.Statement.{statement}
 use Rattle.departure.proofs.Departure.at_most.Tie as tie
 

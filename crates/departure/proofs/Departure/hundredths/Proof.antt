@@ -3,7 +3,7 @@
 use borrow.Author.Needs.{needs}
 use Rattle.departure.specs.inner.Exact.{shown, size}
 use Rattle.departure.proofs.Rounding.{moderate-fits}
-use Rattle.departure.proofs.Signed.{read-back}
+use Rattle.wide.proofs.Signed.{read-back}
 use Rattle.departure.proofs.Departure.hundredths.Statement.{statement}
 use Rattle.departure.proofs.Departure.hundredths.Tie as tie
 

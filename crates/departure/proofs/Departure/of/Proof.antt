@@ -3,7 +3,7 @@
 use native.Mathlib.Omega.{arith}
 use Rattle.departure.specs.inner.Answer.{people-bounded, average-bounded}
 use Rattle.departure.specs.inner.Exact.{exactOf}
-use Rattle.departure.proofs.Signed.{read-back}
+use Rattle.wide.proofs.Signed.{read-back}
 use Rattle.departure.proofs.Departure.of.Statement.{statement}
 use Rattle.departure.proofs.Departure.of.Tie as tie
 

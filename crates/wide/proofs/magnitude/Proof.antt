@@ -1,10 +1,10 @@
--- `departure::magnitude` is right because -1 - n fits where -n may not, and one more is n without its sign.
+-- `magnitude` is right because -1 - n fits where -n may not, and one more is n without its sign.
 -- Assumes nothing.
 use borrow.Author.Needs.{needs}
 use native.Mathlib.Omega.{arith}
-use Rattle.departure.proofs.Signed.{turned-fits, turned-read, natAbs-word-below, natural-word}
-use Rattle.departure.proofs.magnitude.Statement.{statement}
-use Rattle.departure.proofs.magnitude.Tie as tie
+use Rattle.wide.proofs.Signed.{turned-fits, turned-read, natAbs-word-below, natural-word}
+use Rattle.wide.proofs.magnitude.Statement.{statement}
+use Rattle.wide.proofs.magnitude.Tie as tie
 
 -- The result ..
 returns : tie.Need-returns
