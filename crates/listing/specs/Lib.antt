@@ -2,7 +2,6 @@
 pub mod Listing
 pub mod Rows
 pub mod Room
-pub mod Seats
 pub mod Listed
 pub mod Printed
 pub mod Example

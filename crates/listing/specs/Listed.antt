@@ -27,7 +27,7 @@ use Rattle.register.specs.Sound.{ReadingSound, reading-sound, reading-named}
 use Rattle.listing.specs.declared.Listed.{Listed}
 use Rattle.listing.specs.Listing.{populationsIn, seatsIn, listingIn, listingOf, refused, allotRefusalIn, fittedOf, listedIn, listedOf, bufferAfter, ListingIs}
 use Rattle.listing.specs.Rows.{namesFrom, listing-by-rows}
-use Rattle.listing.specs.Seats.{Shared, allotment-shared}
+use Rattle.allot.specs.inner.Shared.{Shared, allotment-shared}
 use Rattle.listing.specs.Room.{AllListable, listingRoom, listing-has-room}
 
 -- ---- what is not refused may be listed
