@@ -17,7 +17,8 @@ ghost use Rattle.leximin.specs.inner.Moves.{movedOnce, movedTimes, moved
 // The first claim not met is met.
 pub fn place(populations: &[u64], seats: &mut [u64], total: u64, house: u64)
     requires { ⌜ Workable (now populations) (now seats) total house ⌝ }
-    ensures { λ _. ⌜ now (seats .exit) ≡ placed (sizeTest (now (populations .entry)) house) (length (now (populations .entry))) (now (seats .entry)) ⌝ }
+    ensures { λ _. ⌜ now (seats .exit) ≡ placed (sizeTest (now (populations .entry)) house) (length (now (populations .entry)))
+        (now (seats .entry)) ⌝ }
 {
     let at = first_unmet(populations, &seats[..], total, house);
     seats[at] = seats[at] + 1;
@@ -26,7 +27,8 @@ pub fn place(populations: &[u64], seats: &mut [u64], total: u64, house: u64)
 // The last claim met is given up.
 pub fn withdraw(populations: &[u64], seats: &mut [u64], total: u64, house: u64)
     requires { ⌜ Seated (now populations) (now seats) total house ⌝ }
-    ensures { λ _. ⌜ now (seats .exit) ≡ withdrawn oneEach (sizeTest (now (populations .entry)) house) (length (now (populations .entry))) (now (seats .entry)) ⌝ }
+    ensures { λ _. ⌜ now (seats .exit) ≡ withdrawn oneEach (sizeTest (now (populations .entry)) house)
+        (length (now (populations .entry))) (now (seats .entry)) ⌝ }
 {
     let at = last_met(populations, &seats[..], total, house);
     seats[at] = seats[at] - 1;

@@ -88,7 +88,8 @@ fn prefer(best: Giver, next: Giver) -> Giver
 // The state whose last claim met comes last, the latest of equals.
 pub fn last_met(populations: &[u64], seats: &[u64], total: u64, house: u64) -> usize
     requires { ⌜ Seated (now populations) (now seats) total house ⌝ }
-    ensures { λ r. ⌜ r ≡ lastMet oneEach (sizeTest (now (populations .entry)) house) (length (now (populations .entry))) (now (seats .entry)) ⌝ }
+    ensures { λ r. ⌜ r ≡ lastMet oneEach (sizeTest (now (populations .entry)) house) (length (now (populations .entry)))
+        (now (seats .entry)) ⌝ }
 {
     let mut best = giver_of(0, populations[0], seats[0], total, house);
     let mut i = 1;

@@ -21,7 +21,8 @@ ghost use Rattle.leximin.specs.inner.Settled.{Settled};
 
 // Fills the seat list with the leximin allotment of the house, from the start by single moves; the answer is how many there were.
 pub fn fill_leximin(populations: &[u64], total: u64, house: u64, seats: &mut [u64]) -> u64
-    requires { ⌜ Ready (now populations) total house × (length (now populations) ≤ house) × (length (now seats) ≡ length (now populations)) ⌝ }
+    requires { ⌜ Ready (now populations) total house × (length (now populations) ≤ house)
+        × (length (now seats) ≡ length (now populations)) ⌝ }
     ensures { λ r. ⌜ Settled (now (populations .entry)) house (now (seats .exit)) r ⌝ }
 {
     fill_start(populations, total, house, &mut seats[..]);
@@ -65,7 +66,8 @@ fn comes_before(m: Move, i: usize, k: Move, j: usize) -> bool
 // The last claim met comes before the first one not met: seats for which this holds are leximin for their total.
 pub fn ends_apart(populations: &[u64], seats: &[u64], total: u64, house: u64) -> bool
     requires { ⌜ Seated (now populations) (now seats) total house ⌝ }
-    ensures { λ r. ⌜ r ≡ endsApart oneEach (sizeTest (now (populations .entry)) house) (length (now (populations .entry))) (now (seats .entry)) ⌝ }
+    ensures { λ r. ⌜ r ≡ endsApart oneEach (sizeTest (now (populations .entry)) house) (length (now (populations .entry)))
+        (now (seats .entry)) ⌝ }
 {
     let i = last_met(populations, seats, total, house);
     let j = first_unmet(populations, seats, total, house);

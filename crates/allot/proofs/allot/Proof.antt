@@ -1,4 +1,5 @@
--- `allot::allot` meets its contract: the refusal picks the case of the definition; without one the checks have passed and the total is the sum.
+-- `allot::allot` meets its contract: the refusal picks the case of the definition; without one the checks have passed and the total is the
+-- sum.
 -- Assumes nothing.
 use mathlib.Core.Path.{sym, _∙_}
 use Rattle.problem.specs.inner.Passed.{allot-passed}

@@ -18,7 +18,8 @@ pub record Filled (m : Method) (ps : List ℕ) (H : ℕ) (xs : List ℕ) (made :
   pub steps : made ≡ stepsOf m ps H
 
 -- A refusal: nothing is allotted and the list is as it was.
-pub refused-untouched : {m : Method} {H : ℕ} {ps before : List ℕ} {number : ℕ} → number ≡ allotRefusal m H ps (length before) → (number ≡ accepted → ⊥)
+pub refused-untouched : {m : Method} {H : ℕ} {ps before : List ℕ} {number : ℕ}
+    → number ≡ allotRefusal m H ps (length before) → (number ≡ accepted → ⊥)
     → AllotmentIs m H ps before before (record { refusal = number; steps = 0 })
 unfolding allottedOf seatsAfter stepsAfter
 refused-untouched {m} {H} {ps} {before} {number} e refused =
@@ -26,7 +27,8 @@ refused-untouched {m} {H} {ps} {before} {number} e refused =
     record { outcome = rw (no, e); seats = rw no }
 
 -- No refusal: the method's seats and steps.
-pub accepted-filled : {m : Method} {H : ℕ} {ps before after : List ℕ} {number made : ℕ} → number ≡ allotRefusal m H ps (length before) → number ≡ accepted
+pub accepted-filled : {m : Method} {H : ℕ} {ps before after : List ℕ} {number made : ℕ}
+    → number ≡ allotRefusal m H ps (length before) → number ≡ accepted
     → Filled m ps H after made → AllotmentIs m H ps before after (record { refusal = number; steps = made })
 unfolding allottedOf seatsAfter stepsAfter
 accepted-filled {m} {H} {ps} {before} {after} {number} {made} e a f =

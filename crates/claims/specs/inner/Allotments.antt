@@ -1,5 +1,5 @@
--- The list of all allotments for a total has exactly the allotments with that total; and of a list, an allotment that is chosen before every
--- other one is the first. So leximin's choice is known by comparing it with any other allotment.
+-- The list of all allotments for a total has exactly the allotments with that total; and of a list, an allotment that is chosen before
+-- every other one is the first. So leximin's choice is known by comparing it with any other allotment.
 -- Assumes nothing.
 use mathlib.Core.Path.{_≡_, refl, sym, ap}
 use mathlib.Core.Bool.{Bool, true, false, cond}

@@ -1,5 +1,5 @@
--- Each method's signpost d(a) lies between a and a + 1, for Hill between their squares. So rounding p H / P by the signposts parts a state's
--- claims at the average, and the rounded seats stand.
+-- Each method's signpost d(a) lies between a and a + 1, for Hill between their squares. So rounding p H / P by the signposts parts a
+-- state's claims at the average, and the rounded seats stand.
 -- Assumes nothing.
 use mathlib.Core.Path.{_≡_, refl, ap}
 use mathlib.Core.Bool.{Bool, true, false, cond}

@@ -1,6 +1,6 @@
--- Seats at a price cost least. Let state i with a seats cost c i a, and let u and v name a price u - v: no seat more of any state costs less
--- than the price, and no seat fewer saves more. Then seats of another distribution of the same total cost no less, and where they cost as
--- much, register order decides between the two.
+-- Seats at a price cost least. Let state i with a seats cost c i a, and let u and v name a price u - v: no seat more of any state costs
+-- less than the price, and no seat fewer saves more. Then seats of another distribution of the same total cost no less, and where they
+-- cost as much, register order decides between the two.
 -- Assumes nothing.
 use mathlib.Core.Path.{_≡_, refl, sym, _∙_, ap}
 use mathlib.Core.Bool.{Bool, true, false, cond, false≢true}
@@ -79,8 +79,8 @@ none-left (suc n) s e (suc i) h = none-left n (λ k. s (suc k)) (omega arith) i 
 
 -- ---- register order
 
--- Of two distributions of a total, where the first has no fewer seats before state j and no more from j on, they are the same or the first has
--- more at the first state where they differ.
+-- Of two distributions of a total, where the first has no fewer seats before state j and no more from j on, they are the same or the first
+-- has more at the first state where they differ.
 same-or-more : (j : ℕ) (xs ys : List ℕ) → length xs ≡ length ys
     → ((i : ℕ) → i < length xs → i < j → getD ys i 0 ≤ getD xs i 0)
     → ((i : ℕ) → i < length xs → j ≤ i → getD xs i 0 ≤ getD ys i 0)

@@ -1,6 +1,6 @@
--- Leximin's claims, ordered by the sizes before and after the seat. A claim falls, is level or rises as the new size is less than, equal to or
--- more than the present one. Falling claims come first, the larger present size first and then the smaller new one; then level claims, all
--- equal; then rising claims, the smaller new size first and then the larger present one.
+-- Leximin's claims, ordered by the sizes before and after the seat. A claim falls, is level or rises as the new size is less than, equal
+-- to or more than the present one. Falling claims come first, the larger present size first and then the smaller new one; then level
+-- claims, all equal; then rising claims, the smaller new size first and then the larger present one.
 -- Assumes nothing.
 use mathlib.Core.Bool.{Bool, true, false, cond}
 use mathlib.Core.List.{List}

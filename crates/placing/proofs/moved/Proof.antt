@@ -1,4 +1,5 @@
--- `placing::moved` meets its contract: a genuine placing's seats are those of its total, so the move gives the seats one step later, as `Stepping` has it.
+-- `placing::moved` meets its contract: a genuine placing's seats are those of its total, so the move gives the seats one step later, as
+-- `Stepping` has it.
 -- Assumes nothing.
 use mathlib.Core.Path.{_≡_, sym}
 use lib.ListN.{length}

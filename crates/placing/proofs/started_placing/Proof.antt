@@ -1,4 +1,5 @@
--- `placing::started_placing` meets its contract: the populations and the start's seats are laid over zeros, which is what filling up a list means.
+-- `placing::started_placing` meets its contract: the populations and the start's seats are laid over zeros, which is what filling up a
+-- list means.
 -- Assumes nothing.
 use mathlib.Core.Path.{refl, sym}
 use lib.Seq.{length-take-le}

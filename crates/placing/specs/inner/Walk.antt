@@ -1,4 +1,5 @@
--- Stepping from the start: the start is the placing after no step, each step leads to the next placing, and at the house stepping stands still.
+-- Stepping from the start: the start is the placing after no step, each step leads to the next placing, and at the house stepping stands
+-- still.
 -- Assumes nothing.
 use mathlib.Core.Path.{_≡_, refl, sym, _∙_, ap}
 use mathlib.Core.Bool.{Bool, true, false, cond}

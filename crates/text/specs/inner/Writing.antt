@@ -38,7 +38,8 @@ laid-next : (t buffer : List ℕ) (at size : ℕ) → laid buffer (placeAfter (l
 unfolding placeAfter
 laid-next t buffer at size = by-room (leb (at + size) (length buffer)) refl
   where
-    by-room : (fits : Bool) → leb (at + size) (length buffer) ≡ fits → laid buffer (placeAfter (length buffer) at size) t ≡ laid buffer (at + size) t
+    by-room : (fits : Bool) → leb (at + size) (length buffer) ≡ fits
+        → laid buffer (placeAfter (length buffer) at size) t ≡ laid buffer (at + size) t
     by-room true e = ap (λ (k : ℕ). laid buffer k t) (omega (arith, leb-true (at + size) (length buffer) e))
     by-room false e =
         let past : length buffer < at + size = leb-false (at + size) (length buffer) e in

@@ -1,4 +1,5 @@
--- `placing::Placing::open` meets its contract: the refusal picks the case of the definition; without one the populations are ready to be worked on.
+-- `placing::Placing::open` meets its contract: the refusal picks the case of the definition; without one the populations are ready to be
+-- worked on.
 -- Assumes nothing.
 use mathlib.Core.Path.{sym, _∙_}
 use borrow.Author.Tests.{eq-eqb, ne-eqb}

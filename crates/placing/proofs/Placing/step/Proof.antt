@@ -1,4 +1,5 @@
--- `placing::Placing::step` meets its contract: whether the placing is genuine and whether it is at the house pick the case of the definition.
+-- `placing::Placing::step` meets its contract: whether the placing is genuine and whether it is at the house pick the case of the
+-- definition.
 -- Assumes nothing.
 use mathlib.Core.Path.{sym, _∙_}
 use borrow.Author.Tests.{eq-eqb, ne-eqb}

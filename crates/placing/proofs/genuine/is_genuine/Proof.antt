@@ -1,4 +1,5 @@
--- `placing::genuine::is_genuine` meets its contract: a test that fails is one that no genuine placing fails, and a placing that passes them all is genuine (`Telling`).
+-- `placing::genuine::is_genuine` meets its contract: a test that fails is one that no genuine placing fails, and a placing that passes
+-- them all is genuine (`Telling`).
 -- Assumes nothing.
 use Rattle.placing.specs.inner.Telling.{same-first, last-test}
 use mathlib.Core.Path.{_≡_, sym, _∙_}

@@ -1,4 +1,5 @@
--- `placing::genuine::seats_agree` meets its contract: the tests are made in the definition's order, and the last one only where the seats can be worked on.
+-- `placing::genuine::seats_agree` meets its contract: the tests are made in the definition's order, and the last one only where the seats
+-- can be worked on.
 -- Assumes nothing.
 use mathlib.Core.Path.{sym, _∙_}
 use borrow.Author.Tests.{eq-eqb, ne-eqb}

@@ -1,4 +1,5 @@
--- `placing::lists::each_within` meets its contract: the numbers passed are within the limit, so the whole list passes exactly if what is left does.
+-- `placing::lists::each_within` meets its contract: the numbers passed are within the limit, so the whole list passes exactly if what is
+-- left does.
 -- Assumes nothing.
 use borrow.Author.Needs.{needs}
 use Prim.Native.Nat.{_-_}
