@@ -39,17 +39,20 @@ array-share-prefix-populations-2 c =
 
 slice-aggregate-place : tie.Need-slice-aggregate-place
 slice-aggregate-place c =
-    let start = c .before .before .before .before .before .before in
+    let past = c .before .before .before .before .before in
+    let start = past .before in
     sym (length-take-le _ _ (omega (arith, full-people start, states-fit _ (start .pre .0))))
 
 array-borrow-prefix-seats : tie.Need-array-borrow-prefix-seats
 array-borrow-prefix-seats c =
-    let start = c .before .before .before .before .before .before in
+    let past = c .before .before .before .before .before in
+    let start = past .before in
     omega (arith, full-seats start, states-fit _ (start .pre .0))
 
 slice-aggregate-place-2 : tie.Need-slice-aggregate-place-2
 slice-aggregate-place-2 c =
-    let start = c .before .before .before .before .before .before .before in
+    let past = c .before .before .before .before .before in
+    let start = past .before .before in
     sym (length-take-le _ _ (omega (arith, full-seats start, states-fit _ (start .pre .0))))
 
 place-requires : tie.Need-place-requires
@@ -64,7 +67,8 @@ add-t19 c = search needs
 
 add-t20 : tie.Need-add-t20
 add-t20 c =
-    let start = c .before .before .before .before .before .before .before .before .before in
+    let past = c .before .before .before .before .before in
+    let start = past .before .before .before .before in
     omega (arith, steps-fit _ (start .pre .0))
 
 returns : tie.Need-returns
@@ -81,17 +85,20 @@ array-share-prefix-populations-3 c =
 
 slice-aggregate-withdraw : tie.Need-slice-aggregate-withdraw
 slice-aggregate-withdraw c =
-    let start = c .before .before .before .before .before .before in
+    let past = c .before .before .before .before .before in
+    let start = past .before in
     sym (length-take-le _ _ (omega (arith, full-people start, states-fit _ (start .pre .0))))
 
 array-borrow-prefix-seats-2 : tie.Need-array-borrow-prefix-seats-2
 array-borrow-prefix-seats-2 c =
-    let start = c .before .before .before .before .before .before in
+    let past = c .before .before .before .before .before in
+    let start = past .before in
     omega (arith, full-seats start, states-fit _ (start .pre .0))
 
 slice-aggregate-withdraw-2 : tie.Need-slice-aggregate-withdraw-2
 slice-aggregate-withdraw-2 c =
-    let start = c .before .before .before .before .before .before .before in
+    let past = c .before .before .before .before .before in
+    let start = past .before .before in
     sym (length-take-le _ _ (omega (arith, full-seats start, states-fit _ (start .pre .0))))
 
 withdraw-requires : tie.Need-withdraw-requires
@@ -106,7 +113,8 @@ sub-t28 c = search needs
 
 add-t29 : tie.Need-add-t29
 add-t29 c =
-    let start = c .before .before .before .before .before .before .before .before .before in
+    let past = c .before .before .before .before .before in
+    let start = past .before .before .before .before in
     omega (arith, steps-fit _ (start .pre .0))
 
 returns-2 : tie.Need-returns-2

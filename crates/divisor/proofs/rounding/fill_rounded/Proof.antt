@@ -37,7 +37,8 @@ slice-write-seats c = search needs
 
 add-given : tie.Need-add-given Inv-loop μ-loop
 add-given c =
-    let start = c .before .before .before .before .before .before in
+    let past = c .before .before .before .before .before in
+    let start = past .before in
     let turn = c .before .before .before .loop in
     let own = own-at-most (start .args .method) (start .pre .0) (start .pre .1) (turn .i) (c .rounded-of .result)
     (c .rounded-of .ensures) in
@@ -51,7 +52,8 @@ loop-less c = search needs
 
 loop-again : tie.Need-loop-again Inv-loop μ-loop
 loop-again c =
-    let start = c .before .before .before .before .before .before in
+    let past = c .before .before .before .before .before in
+    let start = past .before in
     let turn = c .before .before .before .loop in
     let loop-test = c .before .before .loop-test in
     filling-more (start .args .method) (start .pre .0) (start .pre .1) (c .rounded-of .result) (turn .inv)

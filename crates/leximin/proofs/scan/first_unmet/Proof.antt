@@ -54,7 +54,8 @@ shared-slice-read-move-of-4 c = search needs
 move-of-requires-2 : tie.Need-move-of-requires-2 Inv-loop μ-loop
 move-of-requires-2 c κs =
     let at-loop = c .before .before .before in
-    let start = at-loop .before .before .before .before .before .before in
+    let past = at-loop .before .before .before .before .before in
+    let start = past .before in
     measured (counted (start .pre .counts) (at-loop .loop .i)) (omega (arith, start .pre .seatsFit (at-loop .loop .i)))
 
 better-requires : tie.Need-better-requires Inv-loop μ-loop
@@ -63,7 +64,8 @@ better-requires c κs = (c .before .before .before .before .loop .inv .2 .claim 
 add-i : tie.Need-add-i Inv-loop μ-loop
 add-i c =
     let at-test = c .before .before .before .before in
-    let at-good = at-test .before .before .before .before .before .before .before in
+    let past = at-test .before .before .before .before .before in
+    let at-good = past .before .before in
     omega (arith, at-test .loop-test .taken, at-good .good .0 .0)
 
 loop-less : tie.Need-loop-less Inv-loop μ-loop
@@ -73,7 +75,8 @@ loop-again : tie.Need-loop-again Inv-loop μ-loop
 loop-again c =
     let at-test = c .before .before .before .before in
     let at-loop = at-test .before in
-    let start = at-loop .before .before .before .before .before .before in (
+    let past = at-loop .before .before .before .before .before in
+    let start = past .before in (
       omega arith,
       omega (arith, at-test .loop-test .taken),
       rw (c .better .ensures)

@@ -56,7 +56,8 @@ giver-of-requires-2 : tie.Need-giver-of-requires-2 Inv-loop μ-loop
 giver-of-requires-2 c κs =
     let at-test = c .before .before in
     let at-loop = at-test .before in
-    let start = at-loop .before .before .before .before .before .before in (
+    let past = at-loop .before .before .before .before .before in
+    let start = past .before in (
       measured
           (counted (start .pre .workable .counts) (at-loop .loop .i))
           (omega (arith, start .pre .workable .seatsFit (at-loop .loop .i))),
@@ -69,7 +70,8 @@ prefer-requires c κs = (c .before .before .before .before .loop .inv .2 .claim 
 add-i : tie.Need-add-i Inv-loop μ-loop
 add-i c =
     let at-test = c .before .before .before .before in
-    let at-good = at-test .before .before .before .before .before .before .before in
+    let past = at-test .before .before .before .before .before in
+    let at-good = past .before .before in
     omega (arith, at-test .loop-test .taken, at-good .good .0 .0)
 
 loop-less : tie.Need-loop-less Inv-loop μ-loop
@@ -79,7 +81,8 @@ loop-again : tie.Need-loop-again Inv-loop μ-loop
 loop-again c =
     let at-test = c .before .before .before .before in
     let at-loop = at-test .before in
-    let start = at-loop .before .before .before .before .before .before in (
+    let past = at-loop .before .before .before .before .before in
+    let start = past .before in (
       omega arith,
       omega (arith, at-test .loop-test .taken),
       rw (c .prefer .ensures)

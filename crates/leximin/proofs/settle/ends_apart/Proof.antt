@@ -84,25 +84,29 @@ mul-move-of-3 c =
 
 shared-slice-read-move-of-3 : tie.Need-shared-slice-read-move-of-3
 shared-slice-read-move-of-3 c =
-    let at-first-unmet = c .before .before .before .before .before .before in
+    let past = c .before .before .before .before .before in
+    let at-first-unmet = past .before in
     let start = at-first-unmet .before .before .before .before in
     inside-states (start .pre .workable) (unmet-inside (start .pre .workable) (at-first-unmet .first-unmet .ensures))
 
 mul-move-of-4 : tie.Need-mul-move-of-4
 mul-move-of-4 c =
-    let at-first-unmet = c .before .before .before .before .before .before in
+    let past = c .before .before .before .before .before in
+    let at-first-unmet = past .before in
     let start = at-first-unmet .before .before .before .before in
     scaled-fits _ _ 8 (unmet-inside (start .pre .workable) (at-first-unmet .first-unmet .ensures)) (start .good .1 .0 .1)
 
 shared-slice-read-move-of-4 : tie.Need-shared-slice-read-move-of-4
 shared-slice-read-move-of-4 c =
-    let at-first-unmet = c .before .before .before .before .before .before .before in
+    let past = c .before .before .before .before .before in
+    let at-first-unmet = past .before .before in
     let start = at-first-unmet .before .before .before .before in
     unmet-inside (start .pre .workable) (at-first-unmet .first-unmet .ensures)
 
 move-of-requires-2 : tie.Need-move-of-requires-2
 move-of-requires-2 c κs =
-    let at-first-unmet = c .before .before .before .before .before .before .before in
+    let past = c .before .before .before .before .before in
+    let at-first-unmet = past .before .before in
     let start = at-first-unmet .before .before .before .before in
     measured
     (counted (start .pre .workable .counts) (at-first-unmet .first-unmet .result))

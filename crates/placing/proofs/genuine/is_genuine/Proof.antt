@@ -61,7 +61,8 @@ array-share-prefix-populations-3 c =
 
 slice-aggregate-steps-agree : tie.Need-slice-aggregate-steps-agree
 slice-aggregate-steps-agree c =
-    let at-if1 = c .before .before .before .before .before .before in
+    let past = c .before .before .before .before .before in
+    let at-if1 = past .before in
     let start = at-if1 .before .before .before in
     sym (length-take-le _ _ (omega (arith, full-people start, at-if1 .if1 .left)))
 
@@ -73,25 +74,29 @@ steps-agree-requires c κs =
 
 array-share-prefix-populations-4 : tie.Need-array-share-prefix-populations-4
 array-share-prefix-populations-4 c =
-    let at-if1 = c .before .before .before .before .before .before .before .before in
+    let past = c .before .before .before .before .before in
+    let at-if1 = past .before .before .before in
     let start = at-if1 .before .before .before in
     omega (arith, full-people start, at-if1 .if1 .left)
 
 slice-aggregate-seats-agree : tie.Need-slice-aggregate-seats-agree
 slice-aggregate-seats-agree c =
-    let at-if1 = c .before .before .before .before .before .before .before .before .before in
+    let past = c .before .before .before .before .before in
+    let at-if1 = past .before .before .before .before in
     let start = at-if1 .before .before .before in
     sym (length-take-le _ _ (omega (arith, full-people start, at-if1 .if1 .left)))
 
 array-share-prefix-seats : tie.Need-array-share-prefix-seats
 array-share-prefix-seats c =
-    let at-if1 = c .before .before .before .before .before .before .before .before .before in
+    let past = c .before .before .before .before .before in
+    let at-if1 = past .before .before .before .before in
     let start = at-if1 .before .before .before in
     omega (arith, full-seats start, at-if1 .if1 .left)
 
 slice-aggregate-seats-agree-2 : tie.Need-slice-aggregate-seats-agree-2
 slice-aggregate-seats-agree-2 c =
-    let at-if1 = c .before .before .before .before .before .before .before .before .before .before in
+    let past = c .before .before .before .before .before in
+    let at-if1 = past .before .before .before .before .before in
     let start = at-if1 .before .before .before in
     sym (length-take-le _ _ (omega (arith, full-seats start, at-if1 .if1 .left)))
 
