@@ -2,9 +2,7 @@
 // scan and several by a tournament.
 // Allotting and the placing are built of these; what they say of leximin itself is the theory's (crate `claims`).
 pub mod moves;
-pub mod quotients;
 pub mod scan;
 pub mod settle;
-pub mod sizes;
 pub mod start;
 pub mod tournament;

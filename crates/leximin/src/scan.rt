@@ -1,13 +1,13 @@
 // The moves: the state whose claim comes first of those not met takes a seat, or the one whose claim comes last of those met gives one up.
-use crate::sizes::Move;
-use crate::sizes::move_less;
-use crate::sizes::move_of;
+use sizes::Move;
+use sizes::move_less;
+use sizes::move_of;
 ghost use mathlib.Core.Path.{_≡_};
 ghost use Prim.Native.Nat.{_<_};
 ghost use lib.ListN.{length};
 ghost use Rattle.claims.specs.inner.Order.{firstUnmet, lastMet};
 ghost use Rattle.claims.specs.inner.SizeClaims.{sizeTest, oneEach};
-ghost use Rattle.leximin.specs.inner.Sizes.{SmallMove, Measured};
+ghost use Rattle.sizes.specs.inner.Sizes.{SmallMove, Measured};
 ghost use Rattle.leximin.specs.inner.Scan.{Workable, betterOf, GiverAt, preferOf, Seated};
 
 // The best state of those looked at: its place and its claim.

@@ -1,10 +1,10 @@
 // The start: each state's nearest seats.
-use crate::sizes::size_less;
-use crate::sizes::size_of;
+use sizes::size_less;
+use sizes::size_of;
 ghost use mathlib.Core.Path.{_≡_};
 ghost use lib.ListN.{length};
 ghost use Rattle.claims.specs.inner.SizeClaims.{nearestRounded};
-ghost use Rattle.leximin.specs.inner.Sizes.{Counted};
+ghost use Rattle.sizes.specs.inner.Sizes.{Counted};
 ghost use Rattle.leximin.specs.inner.Start.{Ready};
 ghost use Rattle.apportionment.specs.Leximin.{startSeats, startTotal};
 

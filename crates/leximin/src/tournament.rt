@@ -1,7 +1,7 @@
 // A tournament among the states: the state that moves next stands at its root, and a move is made good on one way up.
 // A move places a seat where `up` is true, and withdraws one otherwise.
-use crate::quotients::climbs_before;
-use crate::quotients::falls_before;
+use sizes::quotients::climbs_before;
+use sizes::quotients::falls_before;
 ghost use mathlib.Core.Path.{_≡_};
 ghost use mathlib.Core.Bool.{true, false};
 ghost use Prim.Native.Nat.{_*_, _≤_};
@@ -10,7 +10,7 @@ ghost use Rattle.apportionment.specs.Limits.{stateLimit};
 ghost use Rattle.claims.specs.inner.Order.{wantsBefore, givesUpBefore};
 ghost use Rattle.claims.specs.inner.SizeClaims.{sizeTest, oneEach};
 ghost use Rattle.claims.specs.inner.TournamentReplay.{Planted};
-ghost use Rattle.leximin.specs.inner.Quotients.{Sided};
+ghost use Rattle.leximin.specs.inner.Sided.{Sided};
 ghost use Rattle.leximin.specs.inner.Tournament.{Pair, movesBefore, betterState, Champions, Moved};
 
 // State i's next claim comes before state j's.

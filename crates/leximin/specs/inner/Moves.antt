@@ -26,7 +26,7 @@ use Rattle.claims.specs.inner.Tournament.{winner-lt, root-is-first}
 use Rattle.claims.specs.inner.TournamentReplay.{replaying-start}
 use Rattle.leximin.specs.inner.Scan.{Workable}
 use Rattle.leximin.specs.inner.Start.{Ready, ready-sound, ready-counts, start-workable}
-use Rattle.leximin.specs.inner.Quotients.{Side, Sided}
+use Rattle.leximin.specs.inner.Sided.{Side, Sided}
 use Rattle.leximin.specs.inner.Tournament.{movesBefore, Champions, Moved, moves-pass, moves-agree}
 
 -- One seat moved: placed where `up` is true, and withdrawn otherwise.

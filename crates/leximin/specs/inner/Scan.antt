@@ -13,10 +13,10 @@ use Rattle.apportionment.specs.Limits.{houseLimit}
 use Rattle.apportionment.specs.Lists.{firstPlace}
 use Rattle.claims.specs.inner.Order.{wantsBefore, givesUpBefore}
 use Rattle.claims.specs.inner.SizeClaims.{sizeTest, oneEach}
-use Rattle.leximin.specs.inner.Sizes.{Counts, MoveIs, lessMove, move-order-kept}
+use Rattle.sizes.specs.inner.Sizes.{Counts, MoveIs, lessMove, move-order-kept}
 use Rattle.leximin.specs.declared.scan.Candidate.{Candidate}
 use Rattle.leximin.specs.declared.scan.Giver.{Giver}
-use Rattle.leximin.specs.declared.sizes.Move.{Move}
+use Rattle.sizes.specs.declared.Move.{Move}
 
 -- Seats that a scan can work on.
 pub record Workable (ps xs : List ℕ) (P H : ℕ) : Type 0 where

@@ -14,11 +14,11 @@ use Rattle.claims.specs.inner.Order.{placedTimes, withdrawnTimes, endsApart, co
 use Rattle.claims.specs.inner.SizeClaims.{sizeTest, oneEach}
 use Rattle.claims.specs.inner.LeximinSteps.{lexMoved, last-step-leximin}
 use Rattle.problem.specs.inner.Total.{cappedTotal, total-is-sum}
-use Rattle.leximin.specs.inner.Sizes.{MoveIs, lessMove}
+use Rattle.sizes.specs.inner.Sizes.{MoveIs, lessMove}
 use Rattle.leximin.specs.inner.Scan.{Seated, claims-compared}
 use Rattle.leximin.specs.inner.Start.{Ready, ready-sound, start-total-fits}
 use Rattle.leximin.specs.inner.Moves.{movedTimes, Movable}
-use Rattle.leximin.specs.declared.sizes.Move.{Move}
+use Rattle.sizes.specs.declared.Move.{Move}
 
 -- What filling hands back: the leximin allotment of the house, and the gap between the start and the house.
 pub record Settled (ps : List ℕ) (H : ℕ) (xs : List ℕ) (made : ℕ) : Type 0 where

@@ -20,7 +20,7 @@ use Rattle.claims.specs.inner.StartSeats.{length-start, start-at}
 use Rattle.claims.specs.inner.StartBounds.{start-below}
 use Rattle.problem.specs.inner.Passed.{Passed}
 use Rattle.problem.specs.inner.Populations.{sum-from, sum-past-end}
-use Rattle.leximin.specs.inner.Sizes.{Counts}
+use Rattle.sizes.specs.inner.Sizes.{Counts}
 use Rattle.leximin.specs.inner.Scan.{Workable}
 
 -- A problem that the checks let through, with the sum of its populations.

@@ -11,7 +11,7 @@ use Rattle.claims.specs.inner.SizeOrder.{size-order}
 use Rattle.claims.specs.inner.Tournament.{better, Passes, Winners}
 use Rattle.claims.specs.inner.TournamentReplay.{Replaying, AgreeBut}
 use Rattle.claims.specs.inner.TournamentOrders.{wants-passes, gives-passes, wants-agree, gives-agree}
-use Rattle.leximin.specs.inner.Quotients.{Sided}
+use Rattle.leximin.specs.inner.Sided.{Sided}
 
 -- State i moves rather than state j.
 unfoldable pub movesBefore : (up : Bool) (ps : List ℕ) (H : ℕ) (xs : List ℕ) → ℕ → ℕ → Bool

@@ -11,7 +11,7 @@ use Rattle.apportionment.specs.Lists.{firstPlace}
 use Rattle.claims.specs.inner.Order.{wantsBefore, firstUnmet}
 use Rattle.claims.specs.inner.SizeClaims.{sizeTest}
 use Rattle.leximin.specs.inner.Scan.{CandidateIs, better-next}
-use Rattle.leximin.specs.inner.Sizes.{counted, measured}
+use Rattle.sizes.specs.inner.Sizes.{counted, measured}
 use Rattle.leximin.proofs.scan.first_unmet.Statement.{statement}
 use Rattle.leximin.proofs.scan.first_unmet.Tie as tie
 

@@ -10,7 +10,7 @@ use Rattle.apportionment.specs.Lists.{firstPlace}
 use Rattle.claims.specs.inner.Order.{givesUpBefore, lastMet}
 use Rattle.claims.specs.inner.SizeClaims.{sizeTest, oneEach}
 use Rattle.leximin.specs.inner.Scan.{GiverIs, prefer-next}
-use Rattle.leximin.specs.inner.Sizes.{counted, measured}
+use Rattle.sizes.specs.inner.Sizes.{counted, measured}
 use Rattle.leximin.proofs.scan.last_met.Statement.{statement}
 use Rattle.leximin.proofs.scan.last_met.Tie as tie
 

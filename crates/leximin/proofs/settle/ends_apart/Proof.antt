@@ -6,7 +6,7 @@ use native.Mathlib.Omega.{arith}
 use borrow.Author.Needs.{scaled-fits}
 use Rattle.leximin.specs.inner.Moves.{met-inside, unmet-inside, inside-states}
 use Rattle.leximin.specs.inner.Settled.{none-to-spare, ends-compared}
-use Rattle.leximin.specs.inner.Sizes.{counted, measured}
+use Rattle.sizes.specs.inner.Sizes.{counted, measured}
 use borrow.Author.Needs.{needs}
 use Rattle.leximin.proofs.settle.ends_apart.Statement.{statement}
 use Rattle.leximin.proofs.settle.ends_apart.Tie as tie

@@ -1,14 +1,14 @@
 -- `leximin::start::fill_start` meets its contract: every place passed holds its state's nearest seats, and a list that does so at every
 -- place is the start.
 -- Assumes nothing.
-use Rattle.leximin.specs.inner.Sizes.{filled-next}
+use Rattle.sizes.specs.inner.Sizes.{filled-next}
 use borrow.Author.Needs.{needs}
 use Prim.Native.Nat.{ℕ, _<_, _≤_, _-_}
 use lib.ListN.{length, getD, length-set}
 use native.Mathlib.Omega.{arith}
 use mathlib.Core.Path.{_≡_}
 use Rattle.claims.specs.inner.SizeClaims.{nearestRounded}
-use Rattle.leximin.specs.inner.Sizes.{counted}
+use Rattle.sizes.specs.inner.Sizes.{counted}
 use Rattle.leximin.specs.inner.Start.{ready-counts, start-at-every-place}
 use Rattle.leximin.proofs.start.fill_start.Statement.{statement}
 use Rattle.leximin.proofs.start.fill_start.Tie as tie

@@ -8,7 +8,7 @@ use borrow.Author.Tests.{eq-eqb, ne-eqb}
 use Rattle.apportionment.specs.Limits.{houseLimit, sumLimit}
 use Rattle.claims.specs.inner.SizeClaims.{nearestRounded}
 use Rattle.claims.specs.inner.MachineWords.{product-fits}
-use Rattle.leximin.specs.inner.Sizes.{whole-at-most-house, measured, size-order-kept}
+use Rattle.sizes.specs.inner.Sizes.{whole-at-most-house, measured, size-order-kept}
 use borrow.Author.Needs.{needs}
 use Rattle.leximin.proofs.start.nearest_seats.Statement.{statement}
 use Rattle.leximin.proofs.start.nearest_seats.Tie as tie

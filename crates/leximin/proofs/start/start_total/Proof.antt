@@ -8,7 +8,7 @@ use native.Mathlib.Omega.{arith}
 use native.Mathlib.Nat.{zero-add}
 use Rattle.apportionment.specs.Leximin.{startSeats, startTotal}
 use Rattle.apportionment.specs.Lists
-use Rattle.leximin.specs.inner.Sizes.{counted}
+use Rattle.sizes.specs.inner.Sizes.{counted}
 use Rattle.leximin.specs.inner.Start.{ready-counts, start-sum-next, start-sum-end, start-total-fits}
 use Rattle.leximin.proofs.start.start_total.Statement.{statement}
 use Rattle.leximin.proofs.start.start_total.Tie as tie

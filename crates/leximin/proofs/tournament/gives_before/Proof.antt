@@ -4,7 +4,7 @@
 use borrow.Author.Tests.{lt-ltb, le-ltb}
 use Rattle.claims.specs.inner.Order.{givesUpBefore}
 use Rattle.claims.specs.inner.SizeClaims.{sizeTest}
-use Rattle.leximin.specs.inner.Quotients.{falling}
+use Rattle.leximin.specs.inner.Sided.{falling}
 use borrow.Author.Needs.{needs}
 use Rattle.leximin.proofs.tournament.gives_before.Statement.{statement}
 use Rattle.leximin.proofs.tournament.gives_before.Tie as tie

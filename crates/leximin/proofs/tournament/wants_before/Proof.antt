@@ -3,7 +3,7 @@
 -- Assumes nothing.
 use Rattle.claims.specs.inner.Order.{wantsBefore}
 use Rattle.claims.specs.inner.SizeClaims.{sizeTest}
-use Rattle.leximin.specs.inner.Quotients.{climbing}
+use Rattle.leximin.specs.inner.Sided.{climbing}
 use borrow.Author.Needs.{needs}
 use Rattle.leximin.proofs.tournament.wants_before.Statement.{statement}
 use Rattle.leximin.proofs.tournament.wants_before.Tie as tie

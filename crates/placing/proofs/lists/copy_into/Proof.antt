@@ -6,7 +6,7 @@ use mathlib.Core.Path.{_≡_, refl}
 use lib.ListN.{length, getD, length-set}
 use lib.Seq.{ext-getD}
 use native.Mathlib.Omega.{arith}
-use Rattle.leximin.specs.inner.Sizes.{filled-next}
+use Rattle.sizes.specs.inner.Sizes.{filled-next}
 use Rattle.placing.proofs.lists.copy_into.Statement.{statement}
 use Rattle.placing.proofs.lists.copy_into.Tie as tie
 

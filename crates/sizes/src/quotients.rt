@@ -1,0 +1,70 @@
+// Two claims compared by their quotients, where both are at or above the start or both below it.
+use crate::size_less;
+use crate::size_of;
+ghost use mathlib.Core.Path.{_≡_};
+ghost use Prim.Native.Nat.{_+_};
+ghost use Rattle.apportionment.specs.Quantities.{less, sizeOf};
+ghost use Rattle.claims.specs.inner.SizeClaims.{sizeBefore};
+ghost use Rattle.claims.specs.inner.SizeQuotients.{risesBefore};
+ghost use Rattle.sizes.specs.inner.Quotients.{Claimed, Climbing, Falling};
+
+// The state's size rises with one seat more.
+fn rises(population: u64, seats: u64, total: u64, house: u64) -> bool
+    requires { ⌜ Claimed population seats total house ⌝ }
+    ensures { λ r. ⌜ r ≡ less (sizeOf population seats total house) (sizeOf population (seats + 1) total house) ⌝ }
+{
+    let present = size_of(population, seats, total, house);
+    let next = size_of(population, seats + 1, total, house);
+    size_less(present, next)
+}
+
+// Of two rising claims, that of population p with a seats comes before that of q with b.
+fn rises_before(p: u64, a: u64, q: u64, b: u64, total: u64, house: u64) -> bool
+    requires { ⌜ Claimed p a total house × Claimed q b total house ⌝ }
+    ensures { λ r. ⌜ r ≡ risesBefore total house p a q b ⌝ }
+{
+    let own = p * (b + 1);
+    let other = q * (a + 1);
+    if other < own {
+        return true;
+    }
+    if own < other {
+        return false;
+    }
+    let own_size = size_of(p, a, total, house);
+    let other_size = size_of(q, b, total, house);
+    size_less(other_size, own_size)
+}
+
+// Of two claims at or above the start, that of population p with a seats comes before that of q with b: level claims come first.
+pub fn climbs_before(p: u64, a: u64, q: u64, b: u64, total: u64, house: u64) -> bool
+    requires { ⌜ Climbing p a total house × Climbing q b total house ⌝ }
+    ensures { λ r. ⌜ r ≡ sizeBefore total house p a q b ⌝ }
+{
+    let other = rises(q, b, total, house);
+    if rises(p, a, total, house) {
+        if other {
+            return rises_before(p, a, q, b, total, house);
+        }
+        return false;
+    }
+    other
+}
+
+// Of two claims below the start, that of population p with a seats comes before that of q with b.
+pub fn falls_before(p: u64, a: u64, q: u64, b: u64, total: u64, house: u64) -> bool
+    requires { ⌜ Falling p a total house × Falling q b total house ⌝ }
+    ensures { λ r. ⌜ r ≡ sizeBefore total house p a q b ⌝ }
+{
+    let own = p * b;
+    let other = q * a;
+    if other < own {
+        return true;
+    }
+    if own < other {
+        return false;
+    }
+    let own_size = size_of(p, a + 1, total, house);
+    let other_size = size_of(q, b + 1, total, house);
+    size_less(own_size, other_size)
+}
