@@ -1,5 +1,4 @@
 -- What inner contracts say, and the laws that proofs cite: nothing here has to be believed.
-pub mod Claims
 pub mod Moves
 pub mod Rounding
 pub mod Steps

@@ -6,7 +6,7 @@ ghost use mathlib.Core.Path.{_≡_};
 ghost use Prim.Native.Nat.{_*_, _≤_};
 ghost use Rattle.apportionment.specs.Limits.{houseLimit, stateLimit};
 ghost use Rattle.apportionment.specs.Divisor.{divisorSeats};
-ghost use Rattle.divisor.specs.inner.Claims.{aimLimit};
+ghost use Rattle.signposts.specs.inner.Claims.{aimLimit};
 ghost use Rattle.divisor.specs.inner.Rounding.{Problem};
 ghost use Rattle.divisor.specs.inner.Steps.{Started};
 

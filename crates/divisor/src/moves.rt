@@ -1,15 +1,16 @@
 // Moves: the seats that rounding left lacking or too much are placed (`up`) or withdrawn one after the other, by a tournament or, where
 // that is faster, by scans.
-use crate::order::first_to_move;
 use crate::tournament::build;
 use crate::tournament::plant;
 use crate::tournament::replay;
 use apportionment::Method;
 use apportionment::STATE_LIMIT;
+use signposts::order::first_to_move;
 ghost use mathlib.Core.Path.{_≡_};
 ghost use Prim.Native.Nat.{_*_, _<_};
 ghost use lib.ListN.{length};
-ghost use Rattle.divisor.specs.inner.Moves.{AllCounted, Moves, Played, Turn, Turned, movedBy, movedOnce, movedSeats};
+ghost use Rattle.signposts.specs.inner.Order.{AllCounted};
+ghost use Rattle.divisor.specs.inner.Moves.{Moves, Played, Turn, Turned, movedBy, movedOnce, movedSeats};
 
 // Scans that look at so few states in all are faster than making a tournament, and so is a single scan.
 const FEW: u64 = 96;

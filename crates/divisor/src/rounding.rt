@@ -1,13 +1,13 @@
 // Rounding: every p A / P rounded by the method's own signposts, for a house A near the one asked for.
-use crate::claim::Claim;
-use crate::claim::claim_less;
-use crate::claim::claim_of;
-use crate::claim::weight_of;
 use apportionment::Method;
+use signposts::Claim;
+use signposts::claim_less;
+use signposts::claim_of;
+use signposts::weight_of;
 ghost use mathlib.Core.Path.{_≡_};
 ghost use Prim.Native.Nat.{_≤_};
 ghost use Rattle.claims.specs.inner.DivisorClaims.{rounded};
-ghost use Rattle.divisor.specs.inner.Claims.{aimLimit};
+ghost use Rattle.signposts.specs.inner.Claims.{aimLimit};
 ghost use Rattle.divisor.specs.inner.Rounding.{Rounds, States, Filled};
 
 // The seats of one state: the whole part of p A / P, and one more unless the claim there passes the average.

@@ -1,11 +1,12 @@
 // The tournament of states: a leaf for each, and at each inner place the one of its two that moves first. The root is the next to move.
-use crate::order::better_of;
 use apportionment::Method;
+use signposts::order::better_of;
 ghost use mathlib.Core.Path.{_≡_};
 ghost use Prim.Native.Nat.{_*_, _<_};
 ghost use lib.ListN.{length};
 ghost use Rattle.claims.specs.inner.TournamentReplay.{Planted, Decidable, beside};
-ghost use Rattle.divisor.specs.inner.Moves.{AllCounted, Decided, Replays, Played};
+ghost use Rattle.signposts.specs.inner.Order.{AllCounted};
+ghost use Rattle.divisor.specs.inner.Moves.{Decided, Replays, Played};
 
 // Puts each state at its leaf.
 pub fn plant(states: usize, tree: &mut [usize])

@@ -1,4 +1,4 @@
--- Moves of seats, placed where `up` and withdrawn otherwise: which state moves first, that a tournament finds it, and that every number
+-- Moves of seats, placed where `up` and withdrawn otherwise: that a tournament finds the state that moves first, and that every number
 -- on the way is within bounds.
 -- Assumes nothing.
 use mathlib.Core.Path.{_≡_, refl, sym, ap, _∙_}
@@ -9,49 +9,22 @@ use native.Mathlib.Omega.{arith}
 use native.Mathlib.Numerals.{add-one}
 use lib.ListN.{length, getD, set}
 use Rattle.apportionment.specs.Limits.{houseLimit, stateLimit}
-use Rattle.apportionment.specs.Lists.{sum, firstPlace}
+use Rattle.apportionment.specs.Lists.{sum}
 use Rattle.apportionment.specs.inner.Lists.{entry-at-most-sum}
 use Rattle.apportionment.specs.Divisor.{oneMore}
 use Rattle.apportionment.specs.declared.Method.{Method}
-use Rattle.claims.specs.inner.Order.{wantsBefore, firstUnmet, placed, placedTimes}
-use Rattle.claims.specs.inner.Order.{givesUpBefore, lastMet, oneLess, withdrawn, withdrawnTimes}
+use Rattle.claims.specs.inner.Order.{firstUnmet, placed, placedTimes}
+use Rattle.claims.specs.inner.Order.{lastMet, oneLess, withdrawn, withdrawnTimes}
 use Rattle.claims.specs.inner.Standing.{length-placedTimes, sum-placedTimes, length-withdrawnTimes}
-use Rattle.claims.specs.inner.StandingOrder.{firstPlace-le}
 use Rattle.claims.specs.inner.Tournament.{Passes, Winners, winner-lt, root-is-first}
 use Rattle.claims.specs.inner.TournamentReplay.{AgreeBut, decidedAt, Replaying, replaying-start}
 use Rattle.claims.specs.inner.TournamentOrders.{wants-passes, gives-passes, wants-agree, gives-agree}
 use Rattle.claims.specs.inner.DivisorClaims.{methodTest}
 use Rattle.claims.specs.inner.DivisorSeats.{method-order, withdrawn-at-most}
-use Rattle.divisor.specs.inner.Claims.{seatLimit, Counted}
+use Rattle.signposts.specs.inner.Claims.{seatLimit}
+use Rattle.signposts.specs.inner.Order.{AllCounted, noFewest, movesBefore, firstToMove}
 
--- ---- what is within bounds
-
--- States whose claims fit, one by one.
-pub record AllCounted (ps ss : List ℕ) : Type 0 where
-  pub some : 0 < length ps
-  pub sameLength : length ss ≡ length ps
-  pub counted : (i : ℕ) → i < length ps → Counted (getD ps i 0) (getD ss i 0)
-
--- Two of them.
-pub record Pair (ps ss : List ℕ) (i j : ℕ) : Type 0 where
-  pub all : AllCounted ps ss
-  pub one : i < length ps
-  pub other : j < length ps
-
--- ---- who moves
-
--- Every state may give up all its seats.
-abbrev pub noFewest : ℕ → ℕ
-noFewest i = 0
-
--- State i moves before state j.
-unfoldable pub movesBefore : Method → Bool → (ps ss : List ℕ) → ℕ → ℕ → Bool
-movesBefore m true ps ss = wantsBefore (methodTest m ps) ss
-movesBefore m false ps ss = givesUpBefore noFewest (methodTest m ps) ss
-
--- The state that moves first.
-abbrev pub firstToMove : Method → Bool → (ps ss : List ℕ) → ℕ
-firstToMove m up ps ss = firstPlace (movesBefore m up ps ss) (length ps - 1)
+-- ---- what a move makes of the seats
 
 -- A state's seats after its move.
 unfoldable pub movedBy : Bool → ℕ → ℕ
@@ -172,16 +145,6 @@ moved-counted m {up} {ps} {before} k done h so-far =
       sameLength = ap length so-far ∙ moved-length m up ps before done ∙ k .all .sameLength;
       counted = λ i l. record { people = k .all .counted i l .people; seats = rw so-far (moved-few m up k done h i l) };
     }
-
--- ---- by scans
-
-pub first-so-far-lt : (m : Method) (up : Bool) {ps ss : List ℕ} {i best : ℕ} → AllCounted ps ss → i ≤ length ps
-    → best ≡ firstPlace (movesBefore m up ps ss) (i - 1) → best < length ps
-first-so-far-lt m up {ps} {ss} {i} k h e = omega (arith, e, k .some, firstPlace-le (movesBefore m up ps ss) (i - 1))
-
-pub first-lt : (m : Method) (up : Bool) {ps ss : List ℕ} {i : ℕ} → AllCounted ps ss → i ≡ firstToMove m up ps ss
-    → (i < length ps) × (i < length ss)
-first-lt m up k e = let within = first-so-far-lt m up k (omega arith) e in (within, omega (arith, within, k .sameLength))
 
 -- ---- by a tournament
 

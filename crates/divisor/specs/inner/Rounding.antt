@@ -17,8 +17,8 @@ use Rattle.apportionment.specs.declared.Method.{Method}
 use Rattle.claims.specs.inner.DivisorClaims.{averageClaim, rounded, roundedSeats}
 use Rattle.claims.specs.inner.DivisorRounding.{length-rounded}
 use Rattle.claims.specs.inner.DivisorSeats.{rounded-at-most}
-use Rattle.divisor.specs.declared.claim.Claim.{Claim}
-use Rattle.divisor.specs.inner.Claims.{held, claimFor, lessClaim, aimLimit, seatLimit, Counted}
+use Rattle.signposts.specs.declared.Claim.{Claim}
+use Rattle.signposts.specs.inner.Claims.{held, claimFor, lessClaim, aimLimit, seatLimit, Counted}
 
 -- ---- what is within bounds
 

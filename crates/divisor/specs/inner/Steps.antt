@@ -17,8 +17,9 @@ use Rattle.claims.specs.inner.StandingMoves.{sum-listOf-zero}
 use Rattle.claims.specs.inner.Standing.{sum-placedTimes, placedTimes-standing, sum-withdrawnTimes, withdrawnTimes-standing}
 use Rattle.claims.specs.inner.DivisorRounding.{rounded-standing}
 use Rattle.claims.specs.inner.DivisorSeats.{rounded-seats-at-most, method-order, standing-is-divisor}
-use Rattle.divisor.specs.inner.Claims.{aimLimit}
-use Rattle.divisor.specs.inner.Moves.{AllCounted, Moves, movedSeats}
+use Rattle.signposts.specs.inner.Claims.{aimLimit}
+use Rattle.signposts.specs.inner.Order.{AllCounted}
+use Rattle.divisor.specs.inner.Moves.{Moves, movedSeats}
 use Rattle.divisor.specs.inner.Rounding.{Problem, Filled, filled-length}
 
 -- Rounded seats, for whichever house, and how many they are.

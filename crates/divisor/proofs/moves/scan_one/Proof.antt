@@ -2,7 +2,8 @@
 -- Assumes nothing.
 use native.Mathlib.Omega.{arith}
 use borrow.Author.Needs.{needs}
-use Rattle.divisor.specs.inner.Moves.{first-lt, moved-once}
+use Rattle.signposts.specs.inner.Order.{first-lt}
+use Rattle.divisor.specs.inner.Moves.{moved-once}
 use Rattle.divisor.proofs.moves.scan_one.Statement.{statement}
 use Rattle.divisor.proofs.moves.scan_one.Tie as tie
 

@@ -7,7 +7,7 @@ use borrow.Author.Needs.{needs}
 use Rattle.apportionment.specs.Limits.{sumLimit}
 use Rattle.claims.specs.inner.DivisorClaims.{rounded}
 use Rattle.claims.specs.inner.MachineWords.{product-fits}
-use Rattle.divisor.specs.inner.Claims.{aimLimit}
+use Rattle.signposts.specs.inner.Claims.{aimLimit}
 use Rattle.divisor.specs.inner.Rounding.{whole-at-most, whole-counted, average-test}
 use Rattle.divisor.proofs.rounding.rounded_of.Statement.{statement}
 use Rattle.divisor.proofs.rounding.rounded_of.Tie as tie

@@ -4,7 +4,7 @@ use Prim.Native.Nat.{_<_}
 use native.Mathlib.Omega.{arith}
 use lib.ListN.{length}
 use Rattle.claims.specs.inner.TournamentReplay.{Building, building-none, building-next, building-more, built}
-use Rattle.divisor.specs.inner.Moves.{movesBefore}
+use Rattle.signposts.specs.inner.Order.{movesBefore}
 use Rattle.divisor.proofs.tournament.build.Statement.{statement}
 use Rattle.divisor.proofs.tournament.build.Tie as tie
 

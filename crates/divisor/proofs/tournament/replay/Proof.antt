@@ -4,7 +4,7 @@ use mathlib.Core.Path.{sym, _∙_}
 use native.Mathlib.Omega.{arith}
 use lib.ListN.{length}
 use Rattle.claims.specs.inner.TournamentReplay.{Climbing, climbing-none, won-lt, beside-within, beside-lt, climbing-more, climbed}
-use Rattle.divisor.specs.inner.Moves.{movesBefore}
+use Rattle.signposts.specs.inner.Order.{movesBefore}
 use Rattle.divisor.proofs.tournament.replay.Statement.{statement}
 use Rattle.divisor.proofs.tournament.replay.Tie as tie
 

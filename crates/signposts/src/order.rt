@@ -1,13 +1,13 @@
 // Which of two states moves first: is given the next seat where seats are placed (`up`), gives one up where they are withdrawn.
-use crate::claim::claim_less;
-use crate::claim::claim_of;
+use crate::claim_less;
+use crate::claim_of;
 use apportionment::Method;
 ghost use mathlib.Core.Path.{_≡_};
 ghost use Prim.Native.Nat.{_<_};
 ghost use Rattle.claims.specs.inner.Order.{wantsBefore, givesUpBefore};
 ghost use Rattle.claims.specs.inner.DivisorClaims.{methodTest};
 ghost use Rattle.claims.specs.inner.Tournament.{better};
-ghost use Rattle.divisor.specs.inner.Moves.{AllCounted, Pair, firstToMove, movesBefore, noFewest};
+ghost use Rattle.signposts.specs.inner.Order.{AllCounted, Pair, firstToMove, movesBefore, noFewest};
 
 // State i's next claim comes before state j's.
 fn wants_before(method: Method, populations: &[u64], seats: &[u64], i: usize, j: usize) -> bool

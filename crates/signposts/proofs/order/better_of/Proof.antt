@@ -1,11 +1,11 @@
--- `divisor::order::better_of` is right because the later of the two places is tested against the earlier, whichever comes first.
+-- `signposts::order::better_of` is right because the later of the two places is tested against the earlier, whichever comes first.
 -- Assumes nothing.
 use mathlib.Core.Path.{sym, _∙_}
 use borrow.Author.Tests.{lt-ltb, le-ltb}
 use borrow.Author.Needs.{needs}
 use Rattle.claims.specs.inner.Tournament.{better}
-use Rattle.divisor.proofs.order.better_of.Statement.{statement}
-use Rattle.divisor.proofs.order.better_of.Tie as tie
+use Rattle.signposts.proofs.order.better_of.Statement.{statement}
+use Rattle.signposts.proofs.order.better_of.Tie as tie
 
 moves-before-requires : tie.Need-moves-before-requires
 moves-before-requires c κs =

@@ -1,4 +1,4 @@
--- `divisor::claim::signpost_of` is right because each arm of its match is the definition's clause for that method.
+-- `signposts::signpost_of` is right because each arm of its match is the definition's clause for that method.
 -- Assumes nothing.
 use mathlib.Core.Path.{_≡_, refl}
 use mathlib.Core.List.{[], _∷_}
@@ -11,11 +11,11 @@ use Rattle.apportionment.proofs.Method.{the-type}
 use Rattle.apportionment.specs.Divisor.{signpost}
 use Rattle.apportionment.specs.declared.Method.{Method}
 use Rattle.apportionment.specs.declared.Method.the-variants.{Leximin, Adams, Dean, Hill, Webster, Jefferson, Remainders}
-use Rattle.divisor.specs.declared.claim.Claim.{Claim}
+use Rattle.signposts.specs.declared.Claim.{Claim}
 use Rattle.claims.specs.inner.MachineWords.{product-fits}
-use Rattle.divisor.specs.inner.Claims.{held, seatLimit}
-use Rattle.divisor.proofs.claim.signpost_of.Statement.{statement}
-use Rattle.divisor.proofs.claim.signpost_of.Tie as tie
+use Rattle.signposts.specs.inner.Claims.{held, seatLimit}
+use Rattle.signposts.proofs.signpost_of.Statement.{statement}
+use Rattle.signposts.proofs.signpost_of.Tie as tie
 
 -- Jefferson's signpost is the next seat, and the two methods that have none are given it.
 next-seat : (m : Method) (a : ℕ) → OneOf (0 ∷ 5 ∷ 6 ∷ []) (tagOf the-type m)

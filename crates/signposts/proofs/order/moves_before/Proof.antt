@@ -1,9 +1,9 @@
--- `divisor::order::moves_before` is right because which way seats move decides which of the theory's orders is meant.
+-- `signposts::order::moves_before` is right because which way seats move decides which of the theory's orders is meant.
 -- Assumes nothing.
 use borrow.Author.Needs.{needs}
-use Rattle.divisor.specs.inner.Moves.{movesBefore}
-use Rattle.divisor.proofs.order.moves_before.Statement.{statement}
-use Rattle.divisor.proofs.order.moves_before.Tie as tie
+use Rattle.signposts.specs.inner.Order.{movesBefore}
+use Rattle.signposts.proofs.order.moves_before.Statement.{statement}
+use Rattle.signposts.proofs.order.moves_before.Tie as tie
 
 wants-before-requires : tie.Need-wants-before-requires
 wants-before-requires c κs = search needs

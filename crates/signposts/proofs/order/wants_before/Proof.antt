@@ -1,13 +1,13 @@
--- `divisor::order::wants_before` is right because the theory's order is that of the two claims' products.
+-- `signposts::order::wants_before` is right because the theory's order is that of the two claims' products.
 -- Assumes nothing.
 use mathlib.Core.Path.{_∙_}
 use borrow.Author.Needs.{needs}
 use Rattle.apportionment.specs.Quantities.{less}
 use Rattle.claims.specs.inner.Order.{wantsBefore}
 use Rattle.claims.specs.inner.DivisorClaims.{divisorTest}
-use Rattle.divisor.specs.inner.Claims.{claimFor, held}
-use Rattle.divisor.proofs.order.wants_before.Statement.{statement}
-use Rattle.divisor.proofs.order.wants_before.Tie as tie
+use Rattle.signposts.specs.inner.Claims.{claimFor, held}
+use Rattle.signposts.proofs.order.wants_before.Statement.{statement}
+use Rattle.signposts.proofs.order.wants_before.Tie as tie
 
 mul-claim-of : tie.Need-mul-claim-of
 mul-claim-of c = search needs

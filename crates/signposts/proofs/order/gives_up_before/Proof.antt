@@ -1,4 +1,4 @@
--- `divisor::order::gives_up_before` is right because its three tests are the theory's, one after the other.
+-- `signposts::order::gives_up_before` is right because its three tests are the theory's, one after the other.
 -- Assumes nothing.
 use native.Mathlib.Omega.{arith}
 use lib.ListN.{getD}
@@ -7,9 +7,9 @@ use borrow.Author.Needs.{needs}
 use Rattle.apportionment.specs.Quantities.{less}
 use Rattle.claims.specs.inner.Order.{givesUpBefore}
 use Rattle.claims.specs.inner.DivisorClaims.{divisorTest}
-use Rattle.divisor.specs.inner.Claims.{one-less-counted, claimFor, held}
-use Rattle.divisor.proofs.order.gives_up_before.Statement.{statement}
-use Rattle.divisor.proofs.order.gives_up_before.Tie as tie
+use Rattle.signposts.specs.inner.Claims.{one-less-counted, claimFor, held}
+use Rattle.signposts.proofs.order.gives_up_before.Statement.{statement}
+use Rattle.signposts.proofs.order.gives_up_before.Tie as tie
 
 mul-own-seats : tie.Need-mul-own-seats
 mul-own-seats c = search needs

@@ -1,10 +1,10 @@
--- `divisor::claim::claim_of` is right because its parts are the signpost and the weight, and the product fits for every method.
+-- `signposts::claim_of` is right because its parts are the signpost and the weight, and the product fits for every method.
 -- Assumes nothing.
 use borrow.Author.Needs.{needs}
 use Rattle.apportionment.specs.Divisor.{claimOf}
-use Rattle.divisor.specs.inner.Claims.{held, claimFor, claim-fits}
-use Rattle.divisor.proofs.claim.claim_of.Statement.{statement}
-use Rattle.divisor.proofs.claim.claim_of.Tie as tie
+use Rattle.signposts.specs.inner.Claims.{held, claimFor, claim-fits}
+use Rattle.signposts.proofs.claim_of.Statement.{statement}
+use Rattle.signposts.proofs.claim_of.Tie as tie
 
 signpost-of-requires : tie.Need-signpost-of-requires
 signpost-of-requires c κs = search needs

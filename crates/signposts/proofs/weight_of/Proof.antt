@@ -1,4 +1,4 @@
--- `divisor::claim::weight_of` is right because Hill alone counts a population by its square.
+-- `signposts::weight_of` is right because Hill alone counts a population by its square.
 -- Assumes nothing.
 use mathlib.Core.Path.{_≡_, refl}
 use mathlib.Core.List.{[], _∷_}
@@ -12,8 +12,8 @@ use Rattle.apportionment.specs.Divisor.{weightOf}
 use Rattle.apportionment.specs.declared.Method.{Method}
 use Rattle.apportionment.specs.declared.Method.the-variants.{Leximin, Adams, Dean, Hill, Webster, Jefferson, Remainders}
 use Rattle.claims.specs.inner.MachineWords.{product-fits}
-use Rattle.divisor.proofs.claim.weight_of.Statement.{statement}
-use Rattle.divisor.proofs.claim.weight_of.Tie as tie
+use Rattle.signposts.proofs.weight_of.Statement.{statement}
+use Rattle.signposts.proofs.weight_of.Tie as tie
 
 -- Every method but Hill's counts people as they are.
 unsquared : (m : Method) (p : ℕ) → OneOf (0 ∷ 1 ∷ 2 ∷ 4 ∷ 5 ∷ 6 ∷ []) (tagOf the-type m) → p ≡ weightOf m p

@@ -1,11 +1,14 @@
-// Claims: the order d(a) / w of a state's next seat as a fraction of two words, and its exact comparison.
+// The layer of signposts: claims, the order d(a) / w of a state's next seat as a fraction of two words, their exact comparison, and which
+// state moves first by them.
+pub mod order;
+
 use apportionment::Method;
 ghost use mathlib.Core.Path.{_≡_};
 ghost use Prim.Native.Nat.{_*_, _≤_};
 ghost use lib.Dec.{ltb};
 ghost use Rattle.apportionment.specs.Limits.{sumLimit};
 ghost use Rattle.apportionment.specs.Divisor.{signpost, weightOf};
-ghost use Rattle.divisor.specs.inner.Claims.{held, claimFor, seatLimit, Counted};
+ghost use Rattle.signposts.specs.inner.Claims.{held, claimFor, seatLimit, Counted};
 
 // A claim d(a) / w; also a signpost d(a), the claim of a weight of 1.
 pub struct Claim {

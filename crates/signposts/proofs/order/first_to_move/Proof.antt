@@ -1,4 +1,4 @@
--- `divisor::order::first_to_move` is right because at each turn the best so far is the first to move among the states passed.
+-- `signposts::order::first_to_move` is right because at each turn the best so far is the first to move among the states passed.
 -- Assumes nothing.
 use mathlib.Core.Path.{_≡_, refl, _∙_}
 use Prim.Native.Nat.{_-_, _<_, _≤_}
@@ -7,9 +7,9 @@ use lib.ListN.{length}
 use borrow.Author.Needs.{needs}
 use Rattle.apportionment.specs.Lists.{firstPlace}
 use Rattle.claims.specs.inner.Tournament.{scan-next}
-use Rattle.divisor.specs.inner.Moves.{movesBefore, first-so-far-lt}
-use Rattle.divisor.proofs.order.first_to_move.Statement.{statement}
-use Rattle.divisor.proofs.order.first_to_move.Tie as tie
+use Rattle.signposts.specs.inner.Order.{movesBefore, first-so-far-lt}
+use Rattle.signposts.proofs.order.first_to_move.Statement.{statement}
+use Rattle.signposts.proofs.order.first_to_move.Tie as tie
 
 abbrev Inv-loop : tie.InvT-loop
 Inv-loop method up populations seats best₀ i₀ best i =

@@ -1,0 +1,52 @@
+-- Which state moves first, by its claim: seats are placed where `up` and withdrawn otherwise.
+-- Assumes nothing.
+use mathlib.Core.Path.{_≡_}
+use mathlib.Core.Bool.{Bool, true, false}
+use mathlib.Core.List.{List}
+use Prim.Native.Nat.{ℕ, _-_, _<_, _≤_}
+use native.Mathlib.Omega.{arith}
+use lib.ListN.{length, getD}
+use Rattle.apportionment.specs.Lists.{firstPlace}
+use Rattle.apportionment.specs.declared.Method.{Method}
+use Rattle.claims.specs.inner.Order.{wantsBefore}
+use Rattle.claims.specs.inner.Order.{givesUpBefore}
+use Rattle.claims.specs.inner.StandingOrder.{firstPlace-le}
+use Rattle.claims.specs.inner.DivisorClaims.{methodTest}
+use Rattle.signposts.specs.inner.Claims.{Counted}
+
+-- ---- what is within bounds
+
+-- States whose claims fit, one by one.
+pub record AllCounted (ps ss : List ℕ) : Type 0 where
+  pub some : 0 < length ps
+  pub sameLength : length ss ≡ length ps
+  pub counted : (i : ℕ) → i < length ps → Counted (getD ps i 0) (getD ss i 0)
+
+-- Two of them.
+pub record Pair (ps ss : List ℕ) (i j : ℕ) : Type 0 where
+  pub all : AllCounted ps ss
+  pub one : i < length ps
+  pub other : j < length ps
+
+-- ---- who moves
+
+-- Every state may give up all its seats.
+abbrev pub noFewest : ℕ → ℕ
+noFewest i = 0
+
+-- State i moves before state j.
+unfoldable pub movesBefore : Method → Bool → (ps ss : List ℕ) → ℕ → ℕ → Bool
+movesBefore m true ps ss = wantsBefore (methodTest m ps) ss
+movesBefore m false ps ss = givesUpBefore noFewest (methodTest m ps) ss
+
+-- The state that moves first.
+abbrev pub firstToMove : Method → Bool → (ps ss : List ℕ) → ℕ
+firstToMove m up ps ss = firstPlace (movesBefore m up ps ss) (length ps - 1)
+
+pub first-so-far-lt : (m : Method) (up : Bool) {ps ss : List ℕ} {i best : ℕ} → AllCounted ps ss → i ≤ length ps
+    → best ≡ firstPlace (movesBefore m up ps ss) (i - 1) → best < length ps
+first-so-far-lt m up {ps} {ss} {i} k h e = omega (arith, e, k .some, firstPlace-le (movesBefore m up ps ss) (i - 1))
+
+pub first-lt : (m : Method) (up : Bool) {ps ss : List ℕ} {i : ℕ} → AllCounted ps ss → i ≡ firstToMove m up ps ss
+    → (i < length ps) × (i < length ss)
+first-lt m up k e = let within = first-so-far-lt m up k (omega arith) e in (within, omega (arith, within, k .sameLength))
