@@ -24,12 +24,12 @@ reaching xs least k = countBelow (reaches xs least) k
 -- ---- counts of those who reach a standing
 
 -- One place more is counted, or not.
-abbrev Counted : (xs : List ℕ) (least k : ℕ) → Type 0
+abbrev pub Counted : (xs : List ℕ) (least k : ℕ) → Type 0
 Counted xs least k =
     ((least ≤ getD xs k 0) × (reaching xs least (k + 1) ≡ 1 + reaching xs least k))
     ⊎ ((getD xs k 0 < least) × (reaching xs least (k + 1) ≡ reaching xs least k))
 
-counted : (xs : List ℕ) (least k : ℕ) → Counted xs least k
+pub counted : (xs : List ℕ) (least k : ℕ) → Counted xs least k
 counted xs least k = by-test (leb least (getD xs k 0)) refl
   where
     by-test : (t : Bool) → leb least (getD xs k 0) ≡ t → Counted xs least k
@@ -56,13 +56,16 @@ falls-between : (xs : List ℕ) (low high i n : ℕ) → low ≤ high → i ≤ 
     → reaching xs high n + reaching xs low i ≤ reaching xs low n + reaching xs high i
 falls-between xs low high i n h l = let all : n - i + i ≡ n = omega arith in rw all at (falls-from xs low high i h (n - i))
 
-falls : (xs : List ℕ) (low high k : ℕ) → low ≤ high → reaching xs high k ≤ reaching xs low k
+pub falls : (xs : List ℕ) (low high k : ℕ) → low ≤ high → reaching xs high k ≤ reaching xs low k
 falls xs low high k h =
     omega (arith, falls-between xs low high 0 k h (omega arith), count-none (reaches xs low), count-none (reaches xs high))
 
-pub all-reach-zero : (xs : List ℕ) (k : ℕ) → reaching xs 0 k ≡ k
-all-reach-zero xs zero = count-none (reaches xs 0)
-all-reach-zero xs (suc k) = rw (← (add-one k)) (omega (arith, count-reached xs 0 k (omega arith), all-reach-zero xs k))
+-- Where every state stands at `low` or above, all are counted.
+pub all-reach : (xs : List ℕ) (low : ℕ) → ((i : ℕ) → i < length xs → low ≤ getD xs i 0)
+    → (k : ℕ) → k ≤ length xs → reaching xs low k ≡ k
+all-reach xs low h zero l = count-none (reaches xs low)
+all-reach xs low h (suc k) l =
+    rw (← (add-one k)) (omega (arith, count-reached xs low k (h k (omega arith)), all-reach xs low h k (omega arith)))
 
 -- Where no state stands above `top`, none is counted above it.
 pub none-above : (xs : List ℕ) (top : ℕ) → ((i : ℕ) → i < length xs → getD xs i 0 ≤ top)
@@ -84,16 +87,10 @@ pub just-as-many : (xs : List ℕ) (left bar : ℕ) → reaching xs (bar + 1) (l
 just-as-many xs left bar just =
     record { above = omega arith; enough = omega (arith, falls xs bar (bar + 1) (length xs) (omega arith)) }
 
--- What is asked of a search for a bar: no more seats are left than there are states, and no state stands above `top`.
-pub record Searchable (xs : List ℕ) (left top : ℕ) : Type 0 where
-  pub few : left ≤ length xs
-  pub topFits : top + 1 < 2 ^ 64
-  pub below : reaching xs (top + 1) (length xs) ≡ 0
-
 -- Going down from where nobody stands, there is a bar.
 bar-below : (xs : List ℕ) (left : ℕ) → left ≤ length xs
     → (top : ℕ) → reaching xs (top + 1) (length xs) ≤ left → (bar : ℕ) × Bar xs left bar
-bar-below xs left few zero h = (0, record { above = h; enough = omega (arith, all-reach-zero xs (length xs)) })
+bar-below xs left few zero h = (0, record { above = h; enough = omega (arith, all-reach xs 0 (λ (i : ℕ) (l : i < length xs). omega arith) (length xs) (omega arith)) })
 bar-below xs left few (suc top) h = by-test (leb (reaching xs (top + 1) (length xs)) left) refl (bar-below xs left few top)
   where
     by-test : (t : Bool) → leb (reaching xs (top + 1) (length xs)) left ≡ t
@@ -143,6 +140,22 @@ served-below : (own bar spare : ℕ) → own < bar → (extraBy own bar spare �
 unfolding extraBy spareAfter
 served-below own bar spare h =
     (simp (le-ltb bar own (omega arith), lt-ltb own bar h), simp (ne-eqb own bar (λ e. omega arith)))
+
+-- Once no seat is to spare, none is for a later state.
+none-after-none : (own bar : ℕ) → spareAfter own bar 0 ≡ 0
+unfolding spareAfter
+none-after-none own bar = by-test (eqb own bar)
+  where
+    by-test : (t : Bool) → cond t (0 - 1) 0 ≡ 0
+    by-test true = omega arith
+    by-test false = omega arith
+
+pub no-more-to-spare : (xs : List ℕ) (bar spare i k : ℕ) → i ≤ k → spareAt xs bar spare i ≡ 0 → spareAt xs bar spare k ≡ 0
+no-more-to-spare xs bar spare i k h e = let all : k - i + i ≡ k = omega arith in rw all at (on (k - i))
+  where
+    on : (d : ℕ) → spareAt xs bar spare (d + i) ≡ 0
+    on zero = rw zero-add e
+    on (suc d) = rw (suc-add, ← (add-one (d + i)), spare-one-more xs bar spare (d + i), on d) (none-after-none (getD xs (d + i) 0) bar)
 
 -- The seats to spare are those not taken by the states at the bar.
 pub spare-is : (xs : List ℕ) (bar spare k : ℕ) → spareAt xs bar spare k ≡ spare + reaching xs (bar + 1) k - reaching xs bar k

@@ -1,15 +1,19 @@
 -- Whole parts with the seats that are left are the allotment of the definition, and the numbers that the code holds on the way have
 -- room. `give_left` and `fill_with_room` cite it.
 -- Assumes nothing.
-use mathlib.Core.Path.{_≡_, sym, ap, _∙_}
+use mathlib.Core.Path.{_≡_, refl, sym, ap, _∙_}
+use mathlib.Core.Bool.{Bool, true, false, cond}
+use mathlib.Core.Logic.{_⊎_, inl, inr}
 use mathlib.Core.List.{List}
 use Prim.Native.Nat.{ℕ, _+_, _-_, _^_, _≤_, _<_}
 use native.Mathlib.Omega.{arith}
+use lib.Dec.{ltb, eqb}
 use lib.ListN.{length, getD}
+use borrow.Author.Tests.{ltb-true, ltb-false, lt-ltb, le-ltb, eqb-true, eqb-false}
 use Rattle.apportionment.specs.Lists.{sum, listOf}
 use Rattle.apportionment.specs.Remainders.{wholePart, seatsLeft, remainderSeatsAt, remainderSeats}
 use Rattle.problem.specs.inner.Passed.{Passed}
-use Rattle.remainders.specs.Building.{length-of, getD-of, is-list-of, list-of-agrees, sum-of-one-more}
+use Rattle.remainders.specs.Building.{length-of, getD-of, is-list-of, list-of-agrees, sum-of-one-more, FilledTo}
 use Rattle.remainders.specs.WholeParts.{wholeParts, sum-above-zero, whole-parts-within, left-within-states}
 use Rattle.remainders.specs.Standing.{
   standingAt,
@@ -22,7 +26,57 @@ use Rattle.remainders.specs.Standing.{
   withExtraAt,
   withExtra,
 }
-use Rattle.remainders.specs.Bar.{none-above, Bar, Searchable, extraBy, spareAt, spareFor, served-by-rank}
+use Rattle.remainders.specs.Bar.{
+  all-reach,
+  none-above,
+  Bar,
+  extraBy,
+  spareAt,
+  no-more-to-spare,
+  spareFor,
+  served-by-rank,
+}
+use Rattle.remainders.specs.Search.{Searchable}
+use Rattle.remainders.specs.declared.Parts.{Parts}
+
+-- ---- the whole parts and the standings
+
+-- No number of the first k is outside of `least` to `greatest`.
+pub record Spans (f : ℕ → ℕ) (k least greatest : ℕ) : Type 0 where
+  pub low : (i : ℕ) → i < k → least ≤ f i
+  pub high : (i : ℕ) → i < k → f i ≤ greatest
+
+pub spans-none : (f : ℕ → ℕ) (least greatest : ℕ) → Spans f 0 least greatest
+spans-none f least greatest = record {
+  low = λ (i : ℕ) (h : i < 0). absurd (omega arith);
+  high = λ (i : ℕ) (h : i < 0). absurd (omega arith);
+}
+
+-- One number more, and ends drawn out to leave it within.
+pub spans-on : (f : ℕ → ℕ) (k least greatest low high own top : ℕ) → Spans f k least greatest → own ≡ f k → f k ≤ top
+    → low ≤ least → (own < 0) ⊎ (low ≤ own) → greatest ≤ high → (top < own) ⊎ (own ≤ high) → Spans f (k + 1) low high
+spans-on f k least greatest low high own top so-far e below l to-low h to-high = record {
+  low = λ (i : ℕ) (m : i < k + 1). by-low i m (eqb i k) refl to-low;
+  high = λ (i : ℕ) (m : i < k + 1). by-high i m (eqb i k) refl to-high;
+}
+  where
+    by-low : (i : ℕ) → i < k + 1 → (t : Bool) → eqb i k ≡ t → (own < 0) ⊎ (low ≤ own) → low ≤ f i
+    by-low i m true d (inl w) = absurd (omega arith)
+    by-low i m true d (inr w) = rw (eqb-true i k d) (omega (arith, e))
+    by-low i m false d w = omega (arith, so-far .low i (omega (arith, eqb-false i k d)))
+
+    by-high : (i : ℕ) → i < k + 1 → (t : Bool) → eqb i k ≡ t → (top < own) ⊎ (own ≤ high) → f i ≤ high
+    by-high i m true d (inl w) = absurd (omega (arith, e))
+    by-high i m true d (inr w) = rw (eqb-true i k d) (omega (arith, e))
+    by-high i m false d w = omega (arith, so-far .high i (omega (arith, eqb-false i k d)))
+
+-- The lists after filling, and what it hands back.
+pub record Filled (ps : List ℕ) (H : ℕ) (standings seats : List ℕ) (r : Parts) : Type 0 where
+  pub standingsAre : standings ≡ standingsOf ps H
+  pub seatsAre : seats ≡ wholeParts ps H
+  pub givenIs : r .given ≡ sum (wholeParts ps H)
+  pub spans : Spans (standingAt ps H) (length ps) (r .least) (r .greatest)
+  pub belowTop : r .greatest ≤ topStanding (sum ps)
 
 -- Standings and seats of as many states, with room for one more seat each.
 pub record HasRoom (xs seats : List ℕ) : Type 0 where
@@ -40,29 +94,27 @@ parts-have-room ps H ok = record {
     long : length (standingsOf ps H) ≡ length ps
     long = length-of (standingAt ps H) (length ps)
 
-parts-are-searchable : (ps : List ℕ) (H : ℕ) → Passed ps H → Searchable (standingsOf ps H) (seatsLeft ps H) (topStanding (sum ps))
-parts-are-searchable ps H ok = record {
-  few = omega (arith, long, left-within-states ps H ok);
-  topFits = top-fits (sum ps) (ok .sumWithin);
-  below = none-above (standingsOf ps H) (topStanding (sum ps)) low (length (standingsOf ps H)) (omega arith);
-}
-  where
-    long : length (standingsOf ps H) ≡ length ps
-    long = length-of (standingAt ps H) (length ps)
-
-    low : (i : ℕ) → i < length (standingsOf ps H) → getD (standingsOf ps H) i 0 ≤ topStanding (sum ps)
-    low i h =
-        rw (getD-of (standingAt ps H) (length ps) i (omega (arith, long)))
-        (standing-below-top (getD ps i 0) (sum ps) H (sum-above-zero ps H ok))
-
 pub has-room : (ps : List ℕ) (H : ℕ) (xs seats : List ℕ) → Passed ps H
     → xs ≡ standingsOf ps H → seats ≡ wholeParts ps H → HasRoom xs seats
 has-room ps H xs seats ok e d = rw (e, d) (parts-have-room ps H ok)
 
-pub is-searchable : (ps : List ℕ) (P H : ℕ) (xs : List ℕ) (given top : ℕ) → Passed ps H → P ≡ sum ps
-    → xs ≡ standingsOf ps H → given ≡ sum (wholeParts ps H) → top ≡ topStanding P → Searchable xs (H - given) top
+pub is-searchable : (ps : List ℕ) (H : ℕ) (xs seats : List ℕ) (r : Parts) → Passed ps H → Filled ps H xs seats r
+    → Searchable xs (H - r .given) (r .least) (r .greatest)
 unfolding seatsLeft
-is-searchable ps P H xs given top ok p e g t = rw (t, p, e, g) (parts-are-searchable ps H ok)
+is-searchable ps H xs seats r ok filled = record {
+  some = omega (arith, long, ok .someState);
+  few = omega (arith, long, filled .givenIs, left-within-states ps H ok);
+  ordered = omega (arith, filled .spans .low 0 (ok .someState), filled .spans .high 0 (ok .someState));
+  fits = omega (arith, filled .belowTop, top-fits (sum ps) (ok .sumWithin));
+  noneAbove = none-above xs (r .greatest) (λ (i : ℕ) (h : i < length xs). rw (stands i h) (filled .spans .high i (omega (arith, long)))) (length xs) (omega arith);
+  allReach = all-reach xs (r .least) (λ (i : ℕ) (h : i < length xs). rw (stands i h) (filled .spans .low i (omega (arith, long)))) (length xs) (omega arith);
+}
+  where
+    long : length xs ≡ length ps
+    long = ap length (filled .standingsAre) ∙ length-of (standingAt ps H) (length ps)
+
+    stands : (i : ℕ) → i < length xs → getD xs i 0 ≡ standingAt ps H i
+    stands i h = ap (λ (l : List ℕ). getD l i 0) (filled .standingsAre) ∙ getD-of (standingAt ps H) (length ps) i (omega (arith, long))
 
 -- ---- serving, and the definition
 
@@ -72,6 +124,65 @@ servedAt xs bar spare seats i = getD seats i 0 + extraBy (getD xs i 0) bar (spar
 
 abbrev pub served : (xs : List ℕ) (bar spare : ℕ) (seats : List ℕ) → List ℕ
 served xs bar spare seats = listOf (servedAt xs bar spare seats) (length seats)
+
+-- The states before a place are served, those from it on have what they had, and if there are any no seat is to spare for them.
+pub record ServedTo (xs : List ℕ) (bar spare : ℕ) (before : List ℕ) (place : ℕ) (after : List ℕ) : Type 0 where
+  pub done : FilledTo (servedAt xs bar spare before) (length before) place after
+  pub kept : (k : ℕ) → place ≤ k → getD after k 0 ≡ getD before k 0
+  pub none : place < length xs → spareAt xs bar spare place ≡ 0
+
+-- Room for one more seat each from a place on.
+pub record RoomFrom (xs : List ℕ) (from : ℕ) (seats : List ℕ) : Type 0 where
+  pub reached : from ≤ length xs
+  pub sameLength : length seats ≡ length xs
+  pub seatsFit : (i : ℕ) → from ≤ i → i < length xs → getD seats i 0 + 1 < 2 ^ 64
+
+-- The seats once the states from a place on are served with no seat to spare.
+abbrev pub servedFromAt : (xs : List ℕ) (bar from : ℕ) (seats : List ℕ) (i : ℕ) → ℕ
+servedFromAt xs bar from seats i = getD seats i 0 + cond (ltb i from) 0 (extraBy (getD xs i 0) bar 0)
+
+abbrev pub servedFrom : (xs : List ℕ) (bar from : ℕ) (seats : List ℕ) → List ℕ
+servedFrom xs bar from seats = listOf (servedFromAt xs bar from seats) (length seats)
+
+pub served-from-here : (xs : List ℕ) (bar from : ℕ) (seats : List ℕ) (i : ℕ) → from ≤ i
+    → servedFromAt xs bar from seats i ≡ getD seats i 0 + extraBy (getD xs i 0) bar 0
+served-from-here xs bar from seats i h = rw (le-ltb i from h)
+
+pub serving-from-starts : (xs : List ℕ) (bar from : ℕ) (seats : List ℕ) → from ≤ length seats
+    → FilledTo (servedFromAt xs bar from seats) (length seats) from seats
+serving-from-starts xs bar from seats h = record {
+  reached = h;
+  long = refl;
+  right = λ (k : ℕ) (l : k < from). rw (lt-ltb k from l) (omega arith);
+}
+
+-- Serving goes on in two parts: up to the place where nothing is to spare, and from it on.
+pub room-from : (xs : List ℕ) (bar spare : ℕ) (before : List ℕ) (place : ℕ) (after : List ℕ) → HasRoom xs before
+    → ServedTo xs bar spare before place after → RoomFrom xs place after
+room-from xs bar spare before place after room s = record {
+  reached = omega (arith, s .done .reached, room .sameLength);
+  sameLength = s .done .long ∙ room .sameLength;
+  seatsFit = λ (i : ℕ) (l : place ≤ i) (h : i < length xs). rw (s .kept i l) (room .seatsFit i h);
+}
+
+pub served-in-parts : (xs : List ℕ) (bar spare : ℕ) (before : List ℕ) (place : ℕ) (after : List ℕ) → HasRoom xs before
+    → ServedTo xs bar spare before place after → servedFrom xs bar place after ≡ served xs bar spare before
+served-in-parts xs bar spare before place after room s =
+    is-list-of
+    (servedFrom xs bar place after)
+    (servedAt xs bar spare before)
+    (length before)
+    (length-of (servedFromAt xs bar place after) (length after) ∙ s .done .long)
+    (λ (i : ℕ) (h : i < length before).
+    getD-of (servedFromAt xs bar place after) (length after) i (omega (arith, s .done .long)) ∙ by-place i h (ltb i place) refl)
+  where
+    by-place : (i : ℕ) → i < length before → (t : Bool) → ltb i place ≡ t → servedFromAt xs bar place after i ≡ servedAt xs bar spare before i
+    by-place i h true e = rw e (omega (arith, s .done .right i (ltb-true i place e)))
+    by-place i h false e =
+        let later : place ≤ i = ltb-false i place e in
+        let none : spareAt xs bar spare i ≡ 0
+        = no-more-to-spare xs bar spare place i later (s .none (omega (arith, room .sameLength))) in
+        rw (e, none) (omega (arith, s .kept i later))
 
 pub served-is : (xs : List ℕ) (left bar spare : ℕ) (seats : List ℕ) → Bar xs left bar → length seats ≡ length xs
     → spare ≡ spareFor xs left bar → served xs bar spare seats ≡ withExtra xs left seats

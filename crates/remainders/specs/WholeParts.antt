@@ -34,11 +34,6 @@ pub record Given (ps : List ℕ) (P H : ℕ) (room : List ℕ) : Type 0 where
 abbrev pub wholeParts : (ps : List ℕ) (H : ℕ) → List ℕ
 wholeParts ps H = listOf (wholePart ps H) (length ps)
 
--- The seats after the whole parts are given, and how many were.
-pub record Filled (ps : List ℕ) (H : ℕ) (seats : List ℕ) (given : ℕ) : Type 0 where
-  pub seatsAre : seats ≡ wholeParts ps H
-  pub givenIs : given ≡ sum (wholeParts ps H)
-
 -- There is someone to share the seats among.
 pub sum-above-zero : (ps : List ℕ) (H : ℕ) → Passed ps H → 0 < sum ps
 sum-above-zero ps H ok = omega (arith, ok .peopled 0 (ok .someState), entry-at-most-sum ps 0)

@@ -1,29 +1,15 @@
 // Largest remainders: each state has its whole part, and those who stand highest for them the seats that are left.
 use apportionment::STATE_LIMIT;
 ghost use mathlib.Core.Path.{_≡_};
-ghost use Prim.Native.Nat.{_*_, _/_, _^_, _≤_, _<_};
+ghost use mathlib.Core.Logic.{_⊎_};
+ghost use Prim.Native.Nat.{_+_, _*_, _/_, _^_, _≤_, _<_};
 ghost use lib.ListN.{length};
 ghost use Rattle.apportionment.specs.Remainders.{remainderSeats};
-ghost use Rattle.remainders.specs.WholeParts.{Given, Filled, wholeParts};
-ghost use Rattle.remainders.specs.Standing.{standingOf, topStanding, standingsOf, withExtra};
-ghost use Rattle.remainders.specs.Bar.{reaching, Bar, Searchable, extraBy, spareAfter};
-ghost use Rattle.remainders.specs.Seats.{HasRoom, served};
-
-// Gives each state its whole part, and answers how many seats that makes.
-fn fill_whole_parts(populations: &[u64], total: u64, house: u64, seats: &mut [u64]) -> u64
-    requires { ⌜ Given (now populations) total house (now seats) ⌝ }
-    ensures { λ r. ⌜ Filled (now (populations .entry)) house (now (seats .exit)) r ⌝ }
-{
-    let mut given: u64 = 0;
-    let mut i = 0;
-    while i < populations.len() {
-        let whole = populations[i] * house / total;
-        seats[i] = whole;
-        given += whole;
-        i += 1;
-    }
-    given
-}
+ghost use Rattle.remainders.specs.WholeParts.{Given};
+ghost use Rattle.remainders.specs.Standing.{standingOf, topStanding, withExtra};
+ghost use Rattle.remainders.specs.Bar.{reaching, extraBy, spareAfter};
+ghost use Rattle.remainders.specs.Search.{DrawnUp, DrawnDown, HoldsBar, Narrower, Searchable, BarFound};
+ghost use Rattle.remainders.specs.Seats.{Filled, HasRoom, RoomFrom, ServedTo, servedFrom, served};
 
 // The number by which a state of this population and whole part stands for a seat that is left, the larger first: its remainder.
 fn standing(population: u64, whole: u64, total: u64, house: u64) -> u64
@@ -33,24 +19,81 @@ fn standing(population: u64, whole: u64, total: u64, house: u64) -> u64
     population * house - whole * total
 }
 
-// No state stands above this: a remainder is less than what it is a remainder by, the total. The search for the bar takes it as its upper
-// end and knows nothing else of what a standing is; this function and `standing` alone say it.
+// No state stands above this: a remainder is less than what it is a remainder by, the total. This function and `standing` alone say what a
+// standing is; the search for the bar compares standings and knows nothing else of them.
 fn top_standing(total: u64) -> u64
     ensures { λ r. ⌜ r ≡ topStanding total ⌝ }
 {
     total
 }
 
-// The standing of every state, from its whole part.
-fn fill_standings(populations: &[u64], whole: &[u64], total: u64, house: u64, standings: &mut [u64])
-    requires { ⌜ Given (now populations) total house (now standings) ⌝ }
-    requires { ⌜ now whole ≡ wholeParts (now populations) house ⌝ }
-    ensures { λ _. ⌜ now (standings .exit) ≡ standingsOf (now (populations .entry)) house ⌝ }
+// The lesser of `best` and `own`, where `own` is `low` or more.
+fn least_from(own: u64, low: u64, best: u64) -> u64
+    requires { ⌜ low ≤ best ⌝ }
+    ensures { λ r. ⌜ (low ≤ r) × (r ≤ best) × ((own < low) ⊎ (r ≤ own)) ⌝ }
 {
+    if best < own {
+        return best;
+    }
+    if own < low {
+        return best;
+    }
+    own
+}
+
+// The greater of `best` and `own`, where `own` is `high` or less.
+fn greatest_to(own: u64, high: u64, best: u64) -> u64
+    requires { ⌜ best ≤ high ⌝ }
+    ensures { λ r. ⌜ (best ≤ r) × (r ≤ high) × ((high < own) ⊎ (own ≤ r)) ⌝ }
+{
+    if own < best {
+        return best;
+    }
+    if high < own {
+        return best;
+    }
+    own
+}
+
+// What filling hands back: the seats given as whole parts, and the least and the greatest standing.
+struct Parts {
+    given: u64,
+    least: u64,
+    greatest: u64,
+}
+
+// Gives each state its whole part, and works out its standing while the share is at hand.
+fn fill_parts(
+    populations: &[u64],
+    total: u64,
+    house: u64,
+    standings: &mut [u64],
+    seats: &mut [u64],
+) -> Parts
+    requires { ⌜ Given (now populations) total house (now seats) ⌝ }
+    requires { ⌜ length (now standings) ≡ length (now populations) ⌝ }
+    ensures { λ r. ⌜ Filled (now (populations .entry)) house (now (standings .exit)) (now (seats .exit)) r ⌝ }
+{
+    let top = top_standing(total);
+    let mut given: u64 = 0;
+    let mut least = top;
+    let mut greatest: u64 = 0;
     let mut i = 0;
     while i < populations.len() {
-        standings[i] = standing(populations[i], whole[i], total, house);
+        let population = populations[i];
+        let whole = population * house / total;
+        let own = standing(population, whole, total, house);
+        seats[i] = whole;
+        standings[i] = own;
+        given += whole;
+        least = least_from(own, 0, least);
+        greatest = greatest_to(own, top, greatest);
         i += 1;
+    }
+    Parts {
+        given,
+        least,
+        greatest,
     }
 }
 
@@ -69,27 +112,132 @@ fn reaching(standings: &[u64], least: u64) -> u64
     count
 }
 
-// The bar: a standing with at most `left` states above it, and at least as many at it or above. What lies between 0 and `top`, above
-// which no state stands, is halved until just `left` states stand above the middle, or one number is left.
-fn bar_of(standings: &[u64], left: u64, top: u64) -> u64
-    requires { ⌜ Searchable (now standings) left top ⌝ }
-    ensures { λ r. ⌜ Bar (now (standings .entry)) left r × (r ≤ top) ⌝ }
+// The least standing from `low` to `high`, or `high` where there is none: no state stands at `low` or above it and below the answer.
+fn drawn_up(standings: &[u64], low: u64, high: u64) -> u64
+    requires { ⌜ low ≤ high ⌝ }
+    ensures { λ r. ⌜ DrawnUp (now (standings .entry)) low high r ⌝ }
 {
-    let mut low: u64 = 0;
-    let mut high = top;
-    while low < high {
-        let middle = low + (high - low) / 2;
-        let above = reaching(standings, middle + 1);
-        if above == left {
-            return middle;
-        }
-        if above <= left {
-            high = middle;
-        } else {
-            low = middle + 1;
-        }
+    let mut best = high;
+    let mut j = 0;
+    while j < standings.len() {
+        best = least_from(standings[j], low, best);
+        j += 1;
+    }
+    best
+}
+
+// The greatest standing from `low` to `high`, or `low` where there is none: no state stands above the answer and at `high` or below.
+fn drawn_down(standings: &[u64], low: u64, high: u64) -> u64
+    requires { ⌜ low ≤ high ⌝ }
+    ensures { λ r. ⌜ DrawnDown (now (standings .entry)) low high r ⌝ }
+{
+    let mut best = low;
+    let mut j = 0;
+    while j < standings.len() {
+        best = greatest_to(standings[j], high, best);
+        j += 1;
+    }
+    best
+}
+
+// Where the bar lies: from `low` to `high`, with so many states above `high`. `from` states stand at `low` or above; it only says whether
+// drawing an end in pays, and no proof relies on it.
+struct Range {
+    low: u64,
+    high: u64,
+    above: u64,
+    from: u64,
+}
+
+// The lower end of what is left of a range: `low`, or drawn in where no state was cut off, so that equal standings do not keep the ends
+// apart.
+fn lower_end(standings: &[u64], low: u64, high: u64, loose: bool) -> u64
+    requires { ⌜ low ≤ high ⌝ }
+    ensures { λ r. ⌜ DrawnUp (now (standings .entry)) low high r ⌝ }
+{
+    if loose {
+        return drawn_up(standings, low, high);
     }
     low
+}
+
+// The upper end, in the same way.
+fn upper_end(standings: &[u64], low: u64, high: u64, loose: bool) -> u64
+    requires { ⌜ low ≤ high ⌝ }
+    ensures { λ r. ⌜ DrawnDown (now (standings .entry)) low high r ⌝ }
+{
+    if loose {
+        return drawn_down(standings, low, high);
+    }
+    high
+}
+
+// What is left of a range that is parted at `middle`: `middle` itself where just `left` states stand above it.
+fn parted(standings: &[u64], left: u64, range: Range, middle: u64) -> Range
+    requires { ⌜ HoldsBar (now standings) left range × (range .low ≤ middle) × (middle < range .high) ⌝ }
+    ensures { λ r. ⌜ HoldsBar (now (standings .entry)) left r × Narrower r range ⌝ }
+{
+    let low = range.low;
+    let high = range.high;
+    let above = reaching(standings, middle + 1);
+    if above == left {
+        return Range {
+            low: middle,
+            high: middle,
+            above,
+            from: above,
+        };
+    }
+    if above < left {
+        let end = upper_end(standings, low, middle, above == range.above);
+        return Range {
+            low,
+            high: end,
+            above,
+            from: range.from,
+        };
+    }
+    let end = lower_end(standings, middle + 1, high, above == range.from);
+    Range {
+        low: end,
+        high,
+        above: range.above,
+        from: above,
+    }
+}
+
+// Where the bar would be if the standings were spread evenly.
+fn first_guess(low: u64, high: u64, left: u64, states: u64) -> u64
+    requires { ⌜ (low < high) × (left ≤ states) × (0 < states) ⌝ }
+    ensures { λ r. ⌜ (low ≤ r) × (r < high) ⌝ }
+{
+    let last = high - 1;
+    last - (last - low) / states * left
+}
+
+// The bar: a standing with at most `left` states above it, and at least as many at it or above. What lies between the least and the
+// greatest standing is parted at a first guess, and then halved, until one number is left.
+fn bar_of(standings: &[u64], left: u64, least: u64, greatest: u64) -> Range
+    requires { ⌜ Searchable (now standings) left least greatest ⌝ }
+    ensures { λ r. ⌜ BarFound (now (standings .entry)) left r ⌝ }
+{
+    let states = standings.len() as u64;
+    let all = Range {
+        low: least,
+        high: greatest,
+        above: 0,
+        from: states,
+    };
+    if least == greatest {
+        return all;
+    }
+    let guess = first_guess(least, greatest, left, states);
+    let mut range = parted(standings, left, all, guess);
+    while range.low < range.high {
+        let middle = range.low + (range.high - range.low) / 2;
+        range = parted(standings, left, range, middle);
+    }
+    range
 }
 
 // The seat beyond its whole part of a state that stands at `own`, with `spare` seats for those at the bar.
@@ -121,31 +269,56 @@ fn spare_after(own: u64, bar: u64, spare: u64) -> u64
     spare - 1
 }
 
-// Adds to each state's seats what it has beyond its whole part; equal standings are served in register order.
-fn serve(standings: &[u64], bar: u64, spare: u64, seats: &mut [u64])
+// Serves the states in register order until no seat is to spare, and answers the place reached.
+fn serve_spare(standings: &[u64], bar: u64, spare: u64, seats: &mut [u64]) -> usize
     requires { ⌜ HasRoom (now standings) (now seats) ⌝ }
-    ensures { λ _. ⌜ now (seats .exit) ≡ served (now (standings .entry)) bar spare (now (seats .entry)) ⌝ }
+    ensures { λ r. ⌜ ServedTo (now (standings .entry)) bar spare (now (seats .entry)) r (now (seats .exit)) ⌝ }
 {
     let mut rest = spare;
     let mut i = 0;
     while i < standings.len() {
+        if rest == 0 {
+            return i;
+        }
         let own = standings[i];
         let extra = extra_seat(own, bar, rest);
         seats[i] = seats[i] + extra;
         rest = spare_after(own, bar, rest);
         i += 1;
     }
+    i
+}
+
+// Serves the states from a place on, with no seat to spare: apart from `serve_spare`, since no place here waits for the one before it.
+fn serve_above(standings: &[u64], bar: u64, from: usize, seats: &mut [u64])
+    requires { ⌜ RoomFrom (now standings) from (now seats) ⌝ }
+    ensures { λ _. ⌜ now (seats .exit) ≡ servedFrom (now (standings .entry)) bar from (now (seats .entry)) ⌝ }
+{
+    let mut i = from;
+    while i < standings.len() {
+        let extra = extra_seat(standings[i], bar, 0);
+        seats[i] = seats[i] + extra;
+        i += 1;
+    }
+}
+
+// Adds to each state's seats what it has beyond its whole part; equal standings are served in register order.
+fn serve(standings: &[u64], bar: u64, spare: u64, seats: &mut [u64])
+    requires { ⌜ HasRoom (now standings) (now seats) ⌝ }
+    ensures { λ _. ⌜ now (seats .exit) ≡ served (now (standings .entry)) bar spare (now (seats .entry)) ⌝ }
+{
+    let place = serve_spare(standings, bar, spare, &mut seats[..]);
+    serve_above(standings, bar, place, seats);
 }
 
 // Gives the seats that are left to those who stand highest for them.
-fn give_left(standings: &[u64], left: u64, top: u64, seats: &mut [u64])
-    requires { ⌜ Searchable (now standings) left top ⌝ }
+fn give_left(standings: &[u64], left: u64, least: u64, greatest: u64, seats: &mut [u64])
+    requires { ⌜ Searchable (now standings) left least greatest ⌝ }
     requires { ⌜ HasRoom (now standings) (now seats) ⌝ }
     ensures { λ _. ⌜ now (seats .exit) ≡ withExtra (now (standings .entry)) left (now (seats .entry)) ⌝ }
 {
-    let bar = bar_of(standings, left, top);
-    let above = reaching(standings, bar + 1);
-    serve(standings, bar, left - above, seats);
+    let found = bar_of(standings, left, least, greatest);
+    serve(standings, found.low, left - found.above, seats);
 }
 
 // Fills `seats` with the allotment of largest remainders, with room for the standings lent by the caller.
@@ -160,9 +333,14 @@ fn fill_with_room(
     requires { ⌜ length (now standings) ≡ length (now populations) ⌝ }
     ensures { λ _. ⌜ now (seats .exit) ≡ remainderSeats (now (populations .entry)) house ⌝ }
 {
-    let given = fill_whole_parts(populations, total, house, seats);
-    fill_standings(populations, seats, total, house, standings);
-    give_left(standings, house - given, top_standing(total), seats);
+    let parts = fill_parts(populations, total, house, standings, seats);
+    give_left(
+        standings,
+        house - parts.given,
+        parts.least,
+        parts.greatest,
+        seats,
+    );
 }
 
 // Fills `seats` with the allotment of largest remainders.

@@ -9,40 +9,33 @@ use Rattle.remainders.specs.Seats.{has-room, is-searchable, seats-are-al
 use Rattle.remainders.proofs.fill_with_room.Statement.{statement}
 use Rattle.remainders.proofs.fill_with_room.Tie as tie
 
-fill-whole-parts-requires : tie.Need-fill-whole-parts-requires
-fill-whole-parts-requires c κs = search needs
-
-fill-standings-requires : tie.Need-fill-standings-requires
-fill-standings-requires c κs = search needs
+fill-parts-requires : tie.Need-fill-parts-requires
+fill-parts-requires c κs = search needs
 
 sub-give-left : tie.Need-sub-give-left
 sub-give-left c =
-    let filled = c .before .before .before .before .before .before .before .before in
-    let start = filled .before .before .before .before .before in
+    let lists = c .before .before .before in
+    let filled = lists .before .before .before in
+    let lent = filled .before .before .before in
+    let start = lent .before .before .before in
     let ps = start .args .populations .now in
     omega (
       arith,
-      filled .fill-whole-parts .ensures .givenIs,
+      filled .fill-parts .ensures .givenIs,
       whole-parts-within ps (start .args .house) (length ps) (start .pre .0 .passed),
     )
 
-top-standing-requires : tie.Need-top-standing-requires
-top-standing-requires c κs = search needs
-
 give-left-requires : tie.Need-give-left-requires
 give-left-requires c κs =
-    let stood = c .before .before .before .before .before in
-    let filled = stood .before .before .before .before .before in
-    let start = filled .before .before .before .before .before in
+    let lists = c .before .before .before .before in
+    let filled = lists .before .before .before in
+    let lent = filled .before .before .before in
+    let start = lent .before .before .before in
     let ps = start .args .populations .now in
     let H = start .args .house in
     let ok = start .pre .0 .passed in
-    let stands = stood .fill-standings .ensures in
-    let whole = filled .fill-whole-parts .ensures in
-    let top = c .before .top-standing .ensures in (
-      is-searchable ps (start .args .total) H _ _ _ ok (start .pre .0 .totalIs) stands (whole .givenIs) top,
-      has-room ps H _ _ ok stands (whole .seatsAre),
-    )
+    let parts = filled .fill-parts .ensures in
+    (is-searchable ps H _ _ _ ok parts, has-room ps H _ _ ok (parts .standingsAre) (parts .seatsAre))
 
 same-length : tie.Need-same-length
 same-length c = search needs
@@ -52,23 +45,22 @@ same-length-2 c = search needs
 
 returns : tie.Need-returns
 returns c =
-    let stood = c .before .before .before .before .before .before .before .before in
-    let filled = stood .before .before .before .before .before in
-    let start = filled .before .before .before .before .before in
+    let given = c .before .before in
+    let lists = given .before .before .before .before .before in
+    let filled = lists .before .before .before in
+    let lent = filled .before .before .before in
+    let start = lent .before .before .before in
     let ps = start .args .populations .now in
-    let stands = stood .fill-standings .ensures in
-    let whole = filled .fill-whole-parts .ensures in
-    c .before .before .give-left .ensures
-    ∙ seats-are-allotted ps (start .args .house) _ _ _ stands (whole .seatsAre) (whole .givenIs)
+    let parts = filled .fill-parts .ensures in
+    given .give-left .ensures
+    ∙ seats-are-allotted ps (start .args .house) _ _ _ (parts .standingsAre) (parts .seatsAre) (parts .givenIs)
 
 pub fill-with-room-spec : {M : Type 1} → statement M
 fill-with-room-spec =
     tie.close
     (tie.spec
-    fill-whole-parts-requires
-    fill-standings-requires
+    fill-parts-requires
     sub-give-left
-    top-standing-requires
     give-left-requires
     same-length
     same-length-2

@@ -2,6 +2,7 @@
 -- Assumes nothing.
 use mathlib.Core.Path.{ap, _∙_}
 use Prim.Native.Nat.{ℕ, _-_}
+use native.Mathlib.Omega.{arith}
 use borrow.Author.Needs.{needs}
 use Rattle.remainders.specs.Seats.{served-is}
 use Rattle.remainders.proofs.give_left.Statement.{statement}
@@ -9,12 +10,6 @@ use Rattle.remainders.proofs.give_left.Tie as tie
 
 bar-of-requires : tie.Need-bar-of-requires
 bar-of-requires c κs = search needs
-
-add-reaching : tie.Need-add-reaching
-add-reaching c = search needs
-
-reaching-requires : tie.Need-reaching-requires
-reaching-requires c κs = search needs
 
 sub-serve : tie.Need-sub-serve
 sub-serve c = search needs
@@ -27,31 +22,14 @@ same-length c = search needs
 
 returns : tie.Need-returns
 returns c =
-    let above = c .before .before .before .before in
-    let found = above .before in
+    let served = c .before .before in
+    let found = served .before .before .before in
     let start = found .before .before .before in
     let left = start .args .left in
-    let bar = found .bar-of in
-    let spare = ap (λ (k : ℕ). left - k) (above .reaching .ensures) in
-    c .before .before .serve .ensures
-    ∙ served-is
-    (start .args .standings .now)
-    left
-    (bar .result)
-    _
-    (start .args .seats .now)
-    (bar .ensures .0)
-    (start .pre .1 .sameLength)
-    spare
+    let bar = found .bar-of .ensures in
+    let spare = ap (λ (k : ℕ). left - k) (bar .counted) in
+    served .serve .ensures
+    ∙ served-is (start .args .standings .now) left _ _ (start .args .seats .now) (bar .bar) (start .pre .1 .sameLength) spare
 
 pub give-left-spec : {M : Type 1} → statement M
-give-left-spec =
-    tie.close
-    (tie.spec
-    bar-of-requires
-    add-reaching
-    reaching-requires
-    sub-serve
-    serve-requires
-    same-length
-    returns)
+give-left-spec = tie.close (tie.spec bar-of-requires sub-serve serve-requires same-length returns)

@@ -1,120 +1,29 @@
--- `remainders::serve` meets its contract. The loop's invariant: the states passed are served, those to come have the seats they had, and
--- `rest` is what is to spare. The measure is what is left of the list.
+-- `remainders::serve` meets its contract: served up to the place where nothing is to spare, and from it on, all are served.
 -- Assumes nothing.
-use mathlib.Core.Path.{_≡_, refl, sym, ap, _∙_}
-use Prim.Native.Nat.{ℕ, _-_, _≤_}
-use native.Mathlib.Omega.{arith}
-use lib.ListN.{length, getD}
+use mathlib.Core.Path.{_∙_}
 use borrow.Author.Needs.{needs}
-use Rattle.remainders.specs.Building.{FilledTo, fill-starts, fill-goes-on, fill-ends, rest-is-kept}
-use Rattle.remainders.specs.Bar.{extraBy, spareAfter, spareAt, spare-one-more, at-most-one-served}
-use Rattle.remainders.specs.Seats.{servedAt}
+use Rattle.remainders.specs.Seats.{room-from, served-in-parts}
 use Rattle.remainders.proofs.serve.Statement.{statement}
 use Rattle.remainders.proofs.serve.Tie as tie
 
-abbrev Inv-loop : tie.InvT-loop
-Inv-loop standings bar spare seats₀ rest₀ i₀ seats rest i =
-    FilledTo (servedAt standings bar spare seats₀) (length seats₀) i seats
-    × ((k : ℕ) → i ≤ k → getD seats k 0 ≡ getD seats₀ k 0)
-    × (rest ≡ spareAt standings bar spare i)
+serve-spare-requires : tie.Need-serve-spare-requires
+serve-spare-requires c κs = search needs
 
-abbrev μ-loop : tie.MeasureT-loop
-μ-loop standings bar spare seats₀ rest₀ i₀ seats rest i = length standings - i
+serve-above-requires : tie.Need-serve-above-requires
+serve-above-requires c κs =
+    let served = c .before .before .before in
+    let start = served .before .before .before .before in
+    room-from _ _ _ _ _ _ (start .pre) (served .serve-spare .ensures)
 
-loop-holds : tie.Need-loop-holds Inv-loop μ-loop
-unfolding spareAt
-loop-holds c = (fill-starts _ _ _ refl, (λ k h. refl), refl)
-
-mul-own : tie.Need-mul-own Inv-loop μ-loop
-mul-own c = search needs
-
-shared-slice-read-own : tie.Need-shared-slice-read-own Inv-loop μ-loop
-shared-slice-read-own c = search needs
-
-extra-seat-requires : tie.Need-extra-seat-requires Inv-loop μ-loop
-extra-seat-requires c κs = search needs
-
-mul-seats : tie.Need-mul-seats Inv-loop μ-loop
-mul-seats c = search needs
-
-slice-read-seats : tie.Need-slice-read-seats Inv-loop μ-loop
-slice-read-seats c = search needs
-
-add-seats : tie.Need-add-seats Inv-loop μ-loop
-add-seats c =
-    let at-loop = c .before .before .before .before in
-    let start = at-loop .before .before .before in
-    let i = at-loop .loop .i in
-    let own = getD (start .args .standings .now) i 0 in
-    omega (
-      arith,
-      at-loop .loop .inv .1 i (omega arith),
-      start .pre .seatsFit i (c .before .before .before .loop-test .taken),
-      at-most-one-served own (start .args .bar) (at-loop .loop .rest),
-      c .before .extra-seat .ensures,
-    )
-
-mul-seats-2 : tie.Need-mul-seats-2 Inv-loop μ-loop
-mul-seats-2 c = search needs
-
-slice-write-seats : tie.Need-slice-write-seats Inv-loop μ-loop
-slice-write-seats c = search needs
-
-spare-after-requires : tie.Need-spare-after-requires Inv-loop μ-loop
-spare-after-requires c κs = search needs
-
-add-i : tie.Need-add-i Inv-loop μ-loop
-add-i c = search needs
-
-loop-less : tie.Need-loop-less Inv-loop μ-loop
-loop-less c = search needs
-
-loop-again : tie.Need-loop-again Inv-loop μ-loop
-loop-again c =
-    let at-loop = c .before .before .before .before .before in
-    let start = at-loop .before .before .before in
-    let xs = start .args .standings .now in
-    let bar = start .args .bar in
-    let i = at-loop .loop .i in
-    let kept = at-loop .loop .inv .1 in
-    let rest = at-loop .loop .inv .2 in
-    let extra = c .before .before .extra-seat .ensures ∙ ap (extraBy (getD xs i 0) bar) rest in
-    let spare = c .spare-after .ensures ∙ ap (spareAfter (getD xs i 0) bar) rest in (
-      fill-goes-on _ _ _ _ _
-          (omega (arith, start .pre .sameLength, c .before .before .before .before .loop-test .taken))
-          (omega (arith, kept i (omega arith), extra))
-          (at-loop .loop .inv .0),
-      rest-is-kept (at-loop .loop .seats) (start .args .seats .now) i _ kept,
-      spare ∙ sym (spare-one-more xs bar (start .args .spare) i),
-    )
-
-same-length : tie.Need-same-length Inv-loop μ-loop
+same-length : tie.Need-same-length
 same-length c = search needs
 
-returns : tie.Need-returns Inv-loop μ-loop
+returns : tie.Need-returns
 returns c =
-    fill-ends _ _ _ _
-    (omega (arith, c .before .before .before .before .pre .sameLength, c .loop-test .left))
-    (c .before .loop .inv .0)
+    let above = c .before .before in
+    let served = above .before .before .before .before in
+    let start = served .before .before .before .before in
+    above .serve-above .ensures ∙ served-in-parts _ _ _ _ _ _ (start .pre) (served .serve-spare .ensures)
 
 pub serve-spec : {M : Type 1} → statement M
-serve-spec =
-    tie.close
-    (tie.spec
-    Inv-loop
-    μ-loop
-    loop-holds
-    mul-own
-    shared-slice-read-own
-    extra-seat-requires
-    mul-seats
-    slice-read-seats
-    add-seats
-    mul-seats-2
-    slice-write-seats
-    spare-after-requires
-    add-i
-    loop-less
-    loop-again
-    same-length
-    returns)
+serve-spec = tie.close (tie.spec serve-spare-requires serve-above-requires same-length returns)

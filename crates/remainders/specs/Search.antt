@@ -1,0 +1,133 @@
+-- The search for the bar: a range of standings that holds it is parted until one number is left. An end of the range is drawn in where no
+-- state stands between, which changes no count; so equal standings do not keep the ends apart.
+-- Assumes nothing.
+use mathlib.Core.Path.{_≡_, sym, _∙_}
+use mathlib.Core.Logic.{_⊎_, inl, inr}
+use mathlib.Core.List.{List}
+use Prim.Native.Nat.{ℕ, zero, suc, _+_, _-_, _*_, _/_, _^_, _≤_, _<_}
+use native.Mathlib.Omega.{arith}
+use native.Mathlib.Nat.{mul-le-mul, div-mul-le-self, le-trans}
+use native.Mathlib.Numerals.{add-one}
+use lib.ListN.{length, getD}
+use Rattle.remainders.specs.Building.{count-none}
+use Rattle.remainders.specs.Standing.{reaches}
+use Rattle.remainders.specs.Bar.{reaching, Counted, counted, falls, Bar, just-as-many}
+use Rattle.remainders.specs.declared.Range.{Range}
+
+-- ---- an end drawn in
+
+-- From `low` up to `end` no state stands.
+pub record DrawnUp (xs : List ℕ) (low high end : ℕ) : Type 0 where
+  pub notBelow : low ≤ end
+  pub within : end ≤ high
+  pub same : reaching xs end (length xs) ≡ reaching xs low (length xs)
+
+-- Above `end` and up to `high` no state stands.
+pub record DrawnDown (xs : List ℕ) (low high end : ℕ) : Type 0 where
+  pub within : low ≤ end
+  pub notAbove : end ≤ high
+  pub same : reaching xs (end + 1) (length xs) ≡ reaching xs (high + 1) (length xs)
+
+-- Two standings that are reached as often by the first k states are so by one more, if it reaches both or neither.
+reached-alike : (xs : List ℕ) (a b k : ℕ) → reaching xs a k ≡ reaching xs b k
+    → ((getD xs k 0 < a) × (getD xs k 0 < b)) ⊎ ((a ≤ getD xs k 0) × (b ≤ getD xs k 0))
+    → reaching xs a (k + 1) ≡ reaching xs b (k + 1)
+reached-alike xs a b k e place = by-place place (counted xs a k) (counted xs b k)
+  where
+    by-place : ((getD xs k 0 < a) × (getD xs k 0 < b)) ⊎ ((a ≤ getD xs k 0) × (b ≤ getD xs k 0))
+        → Counted xs a k → Counted xs b k → reaching xs a (k + 1) ≡ reaching xs b (k + 1)
+    by-place (inl p) (inl l) r = absurd (omega arith)
+    by-place (inl p) (inr l) (inl r) = absurd (omega arith)
+    by-place (inl p) (inr l) (inr r) = omega arith
+    by-place (inr p) (inl l) (inl r) = omega arith
+    by-place (inr p) (inl l) (inr r) = absurd (omega arith)
+    by-place (inr p) (inr l) r = absurd (omega arith)
+
+-- The lower end, drawn in to `best` by the first k states, goes on to `next`, which leaves out no state from `low` on.
+pub drawn-up-on : (xs : List ℕ) (low best next k : ℕ) → reaching xs best k ≡ reaching xs low k
+    → low ≤ next → next ≤ best → (getD xs k 0 < low) ⊎ (next ≤ getD xs k 0)
+    → reaching xs next (k + 1) ≡ reaching xs low (k + 1)
+drawn-up-on xs low best next k e l h own =
+    let so-far : reaching xs next k ≡ reaching xs low k = omega (arith, falls xs low next k l, falls xs next best k h) in
+    reached-alike xs next low k so-far (by-own own)
+  where
+    by-own : (getD xs k 0 < low) ⊎ (next ≤ getD xs k 0)
+        → ((getD xs k 0 < next) × (getD xs k 0 < low)) ⊎ ((next ≤ getD xs k 0) × (low ≤ getD xs k 0))
+    by-own (inl p) = inl (omega arith, p)
+    by-own (inr p) = inr (p, omega arith)
+
+-- The upper end in the same way.
+pub drawn-down-on : (xs : List ℕ) (high best next k : ℕ) → reaching xs (best + 1) k ≡ reaching xs (high + 1) k
+    → best ≤ next → next ≤ high → (high < getD xs k 0) ⊎ (getD xs k 0 ≤ next)
+    → reaching xs (next + 1) (k + 1) ≡ reaching xs (high + 1) (k + 1)
+drawn-down-on xs high best next k e l h own =
+    let so-far : reaching xs (next + 1) k ≡ reaching xs (high + 1) k
+    = omega (arith, falls xs (best + 1) (next + 1) k (omega arith), falls xs (next + 1) (high + 1) k (omega arith)) in
+    reached-alike xs (next + 1) (high + 1) k so-far (by-own own)
+  where
+    by-own : (high < getD xs k 0) ⊎ (getD xs k 0 ≤ next)
+        → ((getD xs k 0 < next + 1) × (getD xs k 0 < high + 1)) ⊎ ((next + 1 ≤ getD xs k 0) × (high + 1 ≤ getD xs k 0))
+    by-own (inl p) = inr (omega arith, omega arith)
+    by-own (inr p) = inl (omega arith, omega arith)
+
+-- ---- ranges that hold the bar
+
+-- The bar lies in the range: above it there are no more states than seats left, from its lower end on at least as many.
+pub record HoldsBar (xs : List ℕ) (left : ℕ) (r : Range) : Type 0 where
+  pub ordered : r .low ≤ r .high
+  pub fits : r .high + 1 < 2 ^ 64
+  pub counted : r .above ≡ reaching xs (r .high + 1) (length xs)
+  pub few : r .above ≤ left
+  pub enough : left ≤ reaching xs (r .low) (length xs)
+
+abbrev pub Narrower : (r old : Range) → Type 0
+Narrower r old = r .high - r .low < old .high - old .low
+
+-- What is asked of a search for a bar: some state, no more seats left than states, and no state outside of `least` to `greatest`.
+pub record Searchable (xs : List ℕ) (left least greatest : ℕ) : Type 0 where
+  pub some : 0 < length xs
+  pub few : left ≤ length xs
+  pub ordered : least ≤ greatest
+  pub fits : greatest + 1 < 2 ^ 64
+  pub noneAbove : reaching xs (greatest + 1) (length xs) ≡ 0
+  pub allReach : reaching xs least (length xs) ≡ length xs
+
+pub whole-holds-bar : (xs : List ℕ) (left least greatest from : ℕ) → Searchable xs left least greatest
+    → HoldsBar xs left (record { low = least; high = greatest; above = 0; from = from })
+whole-holds-bar xs left least greatest from ok = record {
+  ordered = ok .ordered;
+  fits = ok .fits;
+  counted = sym (ok .noneAbove);
+  few = omega arith;
+  enough = omega (arith, ok .few, ok .allReach);
+}
+
+-- A range of one number is the bar, and the states above it are counted.
+pub record BarFound (xs : List ℕ) (left : ℕ) (r : Range) : Type 0 where
+  pub bar : Bar xs left (r .low)
+  pub counted : r .above ≡ reaching xs (r .low + 1) (length xs)
+
+pub one-number-is-bar : (xs : List ℕ) (left : ℕ) (r : Range) → HoldsBar xs left r → r .high ≤ r .low → BarFound xs left r
+one-number-is-bar xs left r h one =
+    let same : r .high ≡ r .low = omega (arith, h .ordered) in
+    let above : r .above ≡ reaching xs (r .low + 1) (length xs) = rw same at (h .counted) in
+    record { bar = record { above = omega (arith, h .few); enough = h .enough }; counted = above }
+
+-- A number with just as many states above it as seats are left is such a range.
+pub middle-holds-bar : (xs : List ℕ) (left middle above from : ℕ) → middle + 1 < 2 ^ 64
+    → above ≡ reaching xs (middle + 1) (length xs) → above ≡ left
+    → HoldsBar xs left (record { low = middle; high = middle; above = above; from = from })
+middle-holds-bar xs left middle above from fits e just = record {
+  ordered = omega arith;
+  fits = fits;
+  counted = e;
+  few = omega arith;
+  enough = just-as-many xs left middle (sym e ∙ just) .enough;
+}
+
+-- ---- the first guess
+
+-- Of a width shared among the states, the shares of some of them are no more than the width.
+pub shares-within : (width states some : ℕ) → some ≤ states → width / states * some ≤ width
+shares-within width states some h =
+    le-trans (mul-le-mul {n₁ = width / states} {m₁ = some} {n₂ = width / states} {m₂ = states} (omega arith) h) (div-mul-le-self width states)
