@@ -8,21 +8,18 @@ use native.Mathlib.Omega.{arith}
 use lib.Dec.{eqb}
 use lib.ListN.{length, take, drop}
 use Rattle.apportionment.specs.Refusals.{accepted}
-use Rattle.fields.specs.Grammar.{restOf}
-use Rattle.lines.specs.Lines.{nameAt}
-use Rattle.lines.specs.Places.{EndOf, end-of-end, rest-is-end, name-is-front}
-use Rattle.register.specs.Names.{linesAfter, nameRefusalOf, nameOf}
-use Rattle.register.specs.Kept.{lines-are-end}
+use Rattle.register.specs.Names.{rowsOf, linesAfter, nameInRow, nameRefusalOf, nameOf}
+use Rattle.register.specs.inner.Rows.{row-is-end, name-is-first}
 use Rattle.desk.specs.declared.DeskPart.{DeskPart}
 
 -- What is left from the line of the state with a place on.
 unfoldable pub stateLine : List ℕ → (place : ℕ) → List ℕ
-stateLine s place = linesAfter place (restOf s)
+stateLine s place = linesAfter place (rowsOf s)
 
 -- The part that holds the name, which starts with its line, where there is a name; 0 and 0 with the refusal where there is none.
 unfoldable pub partIf : (named : Bool) → List ℕ → (place : ℕ) → DeskPart
 partIf true s place =
-    record { refusal = accepted; line = 0; start = length s - length (stateLine s place); length = length (nameAt (stateLine s place)) }
+    record { refusal = accepted; line = 0; start = length s - length (stateLine s place); length = length (nameInRow (rowsOf s) place) }
 partIf false s place =
     record { refusal = nameRefusalOf s place .number; line = nameRefusalOf s place .line; start = 0; length = 0 }
 
@@ -31,30 +28,26 @@ partOf s place = partIf (eqb (nameRefusalOf s place .number) accepted) s place
 
 -- ---- where the part stands
 
--- What is left from a state's line on is an end of the register.
-line-is-end : (s : List ℕ) (place : ℕ) → EndOf s (stateLine s place)
-unfolding stateLine
-line-is-end s place = end-of-end (rest-is-end s) (lines-are-end place (restOf s))
-
 pub line-shorter : (s : List ℕ) (place : ℕ) → length (stateLine s place) ≤ length s
-line-shorter s place = line-is-end s place .shorter
+unfolding stateLine
+line-shorter s place = row-is-end s place .shorter
 
 -- The bytes of the part are the name, and none where it is refused.
 pub part-is-name : (s : List ℕ) (place : ℕ) → take (partOf s place .length) (drop (partOf s place .start) s) ≡ nameOf s place
 unfolding partOf partIf nameOf stateLine
 part-is-name s place = by-test (eqb (nameRefusalOf s place .number) accepted)
   where
-    by-test : (t : Bool) → take (partIf t s place .length) (drop (partIf t s place .start) s) ≡ cond t (nameAt (linesAfter place (restOf s))) []
+    by-test : (t : Bool) → take (partIf t s place .length) (drop (partIf t s place .start) s) ≡ cond t (nameInRow (rowsOf s) place) []
     by-test true =
-        ap (take (length (nameAt (stateLine s place)))) (sym (line-is-end s place .stands))
-        ∙ sym (name-is-front (stateLine s place) .stands)
+        ap (take (length (nameInRow (rowsOf s) place))) (sym (row-is-end s place .stands))
+        ∙ sym (name-is-first (rowsOf s) place .stands)
     by-test false = refl
 
 -- The part lies within the register.
 pub part-within : (s : List ℕ) (place : ℕ) → partOf s place .start + partOf s place .length ≤ length s
-unfolding partOf partIf
+unfolding partOf partIf stateLine
 part-within s place = by-test (eqb (nameRefusalOf s place .number) accepted)
   where
     by-test : (t : Bool) → partIf t s place .start + partIf t s place .length ≤ length s
-    by-test true = omega (arith, line-is-end s place .shorter, name-is-front (stateLine s place) .shorter)
+    by-test true = omega (arith, row-is-end s place .shorter, name-is-first (rowsOf s) place .shorter)
     by-test false = zero-le

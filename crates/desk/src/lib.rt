@@ -7,16 +7,14 @@ use apportionment::STATE_LIMIT;
 use apportionment::refusals;
 use departure::Answer;
 use departure::departure_of;
-use fields::cut;
-use lines::pairs;
 use listing::Listed;
 use listing::write_listing;
 use placing::Placed;
 use placing::Placing;
 use register::Reading;
-use register::lines_after;
 use register::name_refusal;
 use register::read;
+use register::rows;
 ghost use mathlib.Core.Path.{_≡_};
 ghost use mathlib.Core.Option.{some};
 ghost use lib.ListN.{length};
@@ -324,8 +322,8 @@ pub extern "C" fn desk_name(bytes: &[u8], place: usize) -> DeskPart
             length: 0,
         };
     }
-    let left = lines_after(cut::rest(bytes), place);
-    let name = pairs::name_at(left);
+    let left = rows::after(rows::of(bytes), place);
+    let name = rows::first_name(left);
     let start = bytes.len() - left.len();
     DeskPart {
         refusal: refusals::ACCEPTED,

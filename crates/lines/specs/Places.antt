@@ -107,22 +107,35 @@ nameOn (suc i) s = nameOn i (restOf s)
 unfoldable pub partOf : List ℕ → (a e : ℕ) → List ℕ
 partOf s a e = take (e - a) (drop a s)
 
--- A name stands among the bytes from place a to place e, and has this fingerprint.
-pub record Stands (s name : List ℕ) (print a e : ℕ) : Type 0 where
+-- A name stands among the bytes from place a to place e.
+pub record Stands (s name : List ℕ) (a e : ℕ) : Type 0 where
   pub ordered : a ≤ e
   pub inside : e ≤ length s
   pub there : partOf s a e ≡ name
-  pub printed : print ≡ fingerprintOf name
 
--- What stands there is the name that stands there.
-pub stands-itself : {s name : List ℕ} {print a e : ℕ} → Stands s name print a e → Stands s (partOf s a e) print a e
-stands-itself so = rw (so .there) so
+-- What stands there has this fingerprint.
+pub record Printed (s : List ℕ) (a e print : ℕ) : Type 0 where
+  pub ordered : a ≤ e
+  pub inside : e ≤ length s
+  pub printed : print ≡ fingerprintOf (partOf s a e)
 
--- The first k places of three lists hold the fingerprints, the starts and the ends of the names on the k lines from `first` on.
-pub record NamesKept (k : ℕ) (first prints starts ends : List ℕ) : Type 0 where
+-- The first k places of two lists hold the starts and the ends of the names on the k lines from `first` on.
+pub record NamesAt (k : ℕ) (first starts ends : List ℕ) : Type 0 where
   pub few : k ≤ stateLimit
-  pub room : (length prints ≡ stateLimit) × (length starts ≡ stateLimit) × (length ends ≡ stateLimit)
-  pub each : (i : ℕ) → i < k → Stands first (nameOn i first) (getD prints i 0) (getD starts i 0) (getD ends i 0)
+  pub room : (length starts ≡ stateLimit) × (length ends ≡ stateLimit)
+  pub each : (i : ℕ) → i < k → Stands first (nameOn i first) (getD starts i 0) (getD ends i 0)
+
+-- The first k places of a third list hold their fingerprints.
+pub record NamesKept (k : ℕ) (first prints starts ends : List ℕ) : Type 0 where
+  pub places : NamesAt k first starts ends
+  pub room : length prints ≡ stateLimit
+  pub printed : (i : ℕ) → i < k → getD prints i 0 ≡ fingerprintOf (nameOn i first)
+
+pub kept-printed : {k : ℕ} {first prints starts ends : List ℕ} → NamesKept k first prints starts ends
+    → (i : ℕ) → i < k → Printed first (getD starts i 0) (getD ends i 0) (getD prints i 0)
+kept-printed kept i below =
+    let name = kept .places .each i below in
+    record { ordered = name .ordered; inside = name .inside; printed = rw (name .there) (kept .printed i below) }
 
 -- Names of different fingerprints differ.
 pub other-fingerprint : (xs ys : List ℕ) → (fingerprintOf xs ≡ fingerprintOf ys → ⊥) → sameList xs ys ≡ false
@@ -156,8 +169,8 @@ pub unused-without-fingerprint : {k : ℕ} {first prints starts ends : List ℕ}
     → NamesKept k first prints starts ends → print ≡ fingerprintOf name → holds print (take k prints) ≡ false
     → usedIn k first name ≡ false
 unused-without-fingerprint {k} {first} {prints} {starts} {ends} {print} name kept its none =
-    let all : length (take k prints) ≡ k = length-take-le k prints (omega (arith, kept .few, kept .room .0)) in
+    let all : length (take k prints) ≡ k = length-take-le k prints (omega (arith, kept .places .few, kept .room)) in
     used-on-none k first name
     (λ i below. other-fingerprint (nameOn i first) name
     (λ equal. holds-not print (take k prints) none i (omega arith)
-    (getD-take k prints i 0 below ∙ kept .each i below .printed ∙ equal ∙ sym its)))
+    (getD-take k prints i 0 below ∙ kept .printed i below ∙ equal ∙ sym its)))

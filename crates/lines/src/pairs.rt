@@ -13,7 +13,7 @@ ghost use Rattle.apportionment.specs.Limits.{sumLimit};
 ghost use Rattle.apportionment.specs.Lists.{sameList};
 ghost use Rattle.lines.specs.Lines.{nameAt, usedIn, closingRefusal};
 ghost use Rattle.lines.specs.Fingerprints.{fingerprintOf};
-ghost use Rattle.lines.specs.Places.{partOf, Stands, NamesKept};
+ghost use Rattle.lines.specs.Places.{partOf, Printed, NamesKept};
 ghost use Rattle.lines.specs.Cut.{pairFormed, entryRefusal, lineRefused, stateLineOf};
 
 // What a state's line says: its refusal, or 0 and the population, the name's fingerprint and length, and the place where the line ends.
@@ -48,7 +48,7 @@ fn is_pair(ended: bool, passes: bool, digits: &[u8]) -> bool
 // Whether the name that stands from `a` to `e` and has the fingerprint `its` is `name`, whose fingerprint is `print`. Bytes are compared
 // only where the fingerprints are equal.
 fn is_name_there(s: &[u8], a: usize, e: usize, its: u32, name: &[u8], print: u32) -> bool
-    requires { ⌜ Stands (now s) (partOf (now s) a e) its a e × (print ≡ fingerprintOf (now name)) ⌝ }
+    requires { ⌜ Printed (now s) a e its × (print ≡ fingerprintOf (now name)) ⌝ }
     ensures { λ r. ⌜ r ≡ sameList (partOf (now (s .entry)) a e) (now (name .entry)) ⌝ }
 {
     if its != print {
@@ -62,8 +62,8 @@ fn is_kept(
     k: usize,
     first: &[u8],
     prints: &[u32],
-    starts: &[usize],
-    ends: &[usize],
+    starts: &[u32],
+    ends: &[u32],
     name: &[u8],
     print: u32,
 ) -> bool
@@ -72,7 +72,9 @@ fn is_kept(
 {
     let mut i = 0;
     while i < k {
-        if is_name_there(first, starts[i], ends[i], prints[i], name, print) {
+        let a = starts[i] as usize;
+        let e = ends[i] as usize;
+        if is_name_there(first, a, e, prints[i], name, print) {
             return true;
         }
         i += 1;
@@ -85,8 +87,8 @@ fn is_used(
     k: usize,
     first: &[u8],
     prints: &[u32],
-    starts: &[usize],
-    ends: &[usize],
+    starts: &[u32],
+    ends: &[u32],
     name: &[u8],
     print: u32,
 ) -> bool
@@ -134,8 +136,8 @@ pub fn read_state(
     first: &[u8],
     k: usize,
     prints: &[u32],
-    starts: &[usize],
-    ends: &[usize],
+    starts: &[u32],
+    ends: &[u32],
     sum: u64,
     s: &[u8],
 ) -> StateLine

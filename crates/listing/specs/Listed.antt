@@ -18,23 +18,19 @@ use Rattle.problem.specs.inner.Passed.{AllotPassed, allot-passed}
 use Rattle.allot.specs.declared.Allotted.{Allotted}
 use Rattle.allot.specs.Allot.{allottedOf, AllotmentIs}
 use Rattle.departure.specs.inner.Answer.{InLimits}
-use Rattle.fields.specs.Tests.{both, within-limits}
-use Rattle.fields.specs.Grammar.{restOf, wordLimit, isName}
 use Rattle.text.specs.inner.Writing.{copiedOut, AtFront}
 use Rattle.register.specs.Register.{readingOf}
 use Rattle.register.specs.declared.Reading.{Reading}
-use Rattle.register.specs.Sound.{ReadingSound, reading-sound, reading-named}
+use Rattle.register.specs.Names.{rowsOf, nameInRow}
+use Rattle.register.specs.Sound.{ReadingSound, reading-sound}
+use Rattle.register.specs.inner.Rows.{name-limited}
 use Rattle.listing.specs.declared.Listed.{Listed}
 use Rattle.listing.specs.Listing.{populationsIn, seatsIn, listingIn, listingOf, refused, allotRefusalIn, fittedOf, listedIn, listedOf, bufferAfter, ListingIs}
-use Rattle.listing.specs.Rows.{namesFrom, listing-by-rows}
+use Rattle.listing.specs.Rows.{listing-by-rows}
 use Rattle.allot.specs.inner.Shared.{Shared, allotment-shared}
 use Rattle.listing.specs.Room.{AllListable, listingRoom, listing-has-room}
 
 -- ---- what is not refused may be listed
-
-short-name : (f : List ℕ) → isName f ≡ true → length f ≤ wordLimit
-unfolding isName
-short-name f named = within-limits wordLimit (length f) (both _ _ named .0) .1
 
 module _ (s : List ℕ) (good : readingOf s .refusal ≡ accepted) (allotted : allotRefusalIn (readingOf s) ≡ accepted) where
   sound : ReadingSound (readingOf s)
@@ -71,7 +67,7 @@ module _ (s : List ℕ) (good : readingOf s .refusal ≡ accepted) (allotted : a
       }
 
   -- Every number of what was read and allotted is within its limits.
-  pub register-listable : AllListable (readingOf s) (namesFrom (restOf s)) (seatsIn (readingOf s))
+  pub register-listable : AllListable (readingOf s) (nameInRow (rowsOf s)) (seatsIn (readingOf s))
   register-listable =
       record {
         few-states = sound .states .1;
@@ -80,7 +76,7 @@ module _ (s : List ℕ) (good : readingOf s .refusal ≡ accepted) (allotted : a
         each-read = each-read;
         house-seated = shared .whole;
         each-seated = shared .states;
-        short-names = λ i below. short-name _ (reading-named s good i below);
+        short-names = name-limited s good;
         each-in-limits = within;
       }
 
@@ -185,12 +181,12 @@ module _ {s : List ℕ} {r : Reading} (read : GoodReading s r) {before after : L
     told-seats = allotted .seats ∙ rw (each, eq-eqb _ _ (sym refusal-told ∙ none))
 
     -- What it allots may be listed ..
-    pub told-listable : {rows : List ℕ} → rows ≡ restOf s → AllListable r (namesFrom rows) after
+    pub told-listable : {rows : List ℕ} → rows ≡ rowsOf s → AllListable r (nameInRow rows) after
     told-listable at-rows = rw (told-seats, at-rows, read .reading) (register-listable s told-good told-accepted)
 
     -- .. and handed over.
-    pub told-listed : {rows : List ℕ} → rows ≡ restOf s → {buffer : List ℕ} {x : Listed} {later : List ℕ}
-        → HandedOver (listingIn r (namesFrom rows) after) buffer x later → ListingIs s buffer x later
+    pub told-listed : {rows : List ℕ} → rows ≡ rowsOf s → {buffer : List ℕ} {x : Listed} {later : List ℕ}
+        → HandedOver (listingIn r (nameInRow rows) after) buffer x later → ListingIs s buffer x later
     told-listed at-rows over =
         handed-over told-good told-accepted
         (rw (listing-by-rows s told-good) (rw (told-seats, at-rows, read .reading) at over))

@@ -12,7 +12,7 @@ use Rattle.apportionment.specs.Limits.{houseLimit, sumLimit, stateLimit}
 use Rattle.apportionment.specs.Lists.{sum}
 use Rattle.apportionment.specs.Quantities.{sizeOf, markOf}
 use Rattle.apportionment.specs.declared.Method.{Method}
-use Rattle.fields.specs.Grammar.{wordLimit}
+use Rattle.register.specs.inner.Rows.{nameLimit}
 use Rattle.text.specs.inner.Bounds.{decimal-of-sum, decimal-of-house, decimal-of-states, mark-length, method-length, lines-length, numbers-length, total-line-length}
 use Rattle.text.specs.inner.ShownRoom.{shown-room}
 use Rattle.register.specs.declared.Reading.{Reading}
@@ -52,7 +52,7 @@ departure-length p (suc a) P H some within limited =
     rw (eqb·suc-zero a, length-append, length-append)
     (omega (arith, shown-room p (suc a) P H (omega arith) some within limited, mark-length (markOf (sizeOf p (suc a) P H))))
 
-state-line-length : (name : List ℕ) {p a P H : ℕ} → length name ≤ wordLimit → InLimits p a P H → length (stateLine name p a P H) ≤ lineRoom
+state-line-length : (name : List ℕ) {p a P H : ℕ} → length name ≤ nameLimit → InLimits p a P H → length (stateLine name p a P H) ≤ lineRoom
 unfolding stateLine
 state-line-length name {p} {a} {P} {H} short fit =
     simp length-append
@@ -63,7 +63,7 @@ state-line-length name {p} {a} {P} {H} short fit =
     ))
 
 state-lines-length : (name : ℕ → List ℕ) (ps seats : List ℕ) (P H k : ℕ)
-    → ((i : ℕ) → i < k → length (name i) ≤ wordLimit)
+    → ((i : ℕ) → i < k → length (name i) ≤ nameLimit)
     → ((i : ℕ) → i < k → InLimits (getD ps i 0) (getD seats i 0) P H)
     → length (stateLines name ps seats P H k) ≤ k * lineRoom
 unfolding stateLines
@@ -81,7 +81,7 @@ pub record AllListable (r : Reading) (name : ℕ → List ℕ) (seats : List ℕ
   pub each-read : r .states ≤ length (r .populations)
   pub house-seated : sum seats ≡ r .house
   pub each-seated : length seats ≡ r .states
-  pub short-names : (i : ℕ) → i < r .states → length (name i) ≤ wordLimit
+  pub short-names : (i : ℕ) → i < r .states → length (name i) ≤ nameLimit
   pub each-in-limits : (i : ℕ) → i < r .states → InLimits (getD (populationsIn r) i 0) (getD seats i 0) (r .total) (r .house)
 
 pub listable-rows : {r : Reading} {name : ℕ → List ℕ} {seats : List ℕ} → AllListable r name seats

@@ -1,5 +1,4 @@
--- The lines of the states, told from what is left of the register after its head: each line's first field is the state's name, so that one
--- walk down the lines lists every state.
+-- The lines of the states, told from the rows of the register, which hold the states' names.
 -- Assumes nothing.
 use mathlib.Core.Path.{_≡_, refl}
 use mathlib.Core.List.{List, _++_}
@@ -8,17 +7,12 @@ use native.Mathlib.Numerals.{add-one}
 use native.Mathlib.Omega.{arith}
 use lib.ListN.{length, getD}
 use Rattle.apportionment.specs.Refusals.{accepted}
-use Rattle.fields.specs.Grammar.{restOf}
-use Rattle.lines.specs.Lines.{nameAt}
 use Rattle.register.specs.Register.{readingOf}
-use Rattle.register.specs.Names.{linesAfter, nameOf}
+use Rattle.register.specs.Names.{rowsOf, nameInRow, nameOf}
 use Rattle.register.specs.Sound.{name-there}
+use Rattle.register.specs.declared.Reading.{Reading}
 use Rattle.departure.specs.inner.Answer.{InLimits}
 use Rattle.listing.specs.Listing.{stateLine, stateLines, populationsIn, seatsIn, listingIn, listingOf}
-
--- The name of state i, of those whose lines start here.
-abbrev pub namesFrom : (rows : List ℕ) → ℕ → List ℕ
-namesFrom rows i = nameAt (linesAfter i rows)
 
 -- A seat count for each population, and no departure that is refused.
 pub record Rows (ps seats : List ℕ) (P H : ℕ) : Type 0 where
@@ -31,7 +25,7 @@ pub state-lines-more : (name : ℕ → List ℕ) (ps seats : List ℕ) (P H k : 
 unfolding stateLines
 state-lines-more name ps seats P H k = rw add-one
 
--- The same names give the same lines.
+-- The same names give the same lines ..
 same-names : (f g : ℕ → List ℕ) (ps seats : List ℕ) (P H k : ℕ) → ((i : ℕ) → i < k → f i ≡ g i)
     → stateLines f ps seats P H k ≡ stateLines g ps seats P H k
 unfolding stateLines
@@ -39,10 +33,15 @@ same-names f g ps seats P H zero same = refl
 same-names f g ps seats P H (suc k) same =
     rw (same-names f g ps seats P H k (λ i below. same i (omega arith)), same k (omega arith))
 
--- The listing of a register that is read, by the lines after its head.
+-- .. and the same listing.
+pub same-listing : (f g : ℕ → List ℕ) (r : Reading) (seats : List ℕ) → ((i : ℕ) → i < r .states → f i ≡ g i)
+    → listingIn r f seats ≡ listingIn r g seats
+unfolding listingIn
+same-listing f g r seats same = rw (same-names f g (populationsIn r) seats (r .total) (r .house) (r .states) same)
+
+-- The listing of a register that is read, by its rows.
 pub listing-by-rows : (s : List ℕ) → readingOf s .refusal ≡ accepted
-    → listingOf s ≡ listingIn (readingOf s) (namesFrom (restOf s)) (seatsIn (readingOf s))
-unfolding listingOf listingIn
+    → listingOf s ≡ listingIn (readingOf s) (nameInRow (rowsOf s)) (seatsIn (readingOf s))
+unfolding listingOf
 listing-by-rows s good =
-    let r = readingOf s in
-    rw (same-names (nameOf s) (namesFrom (restOf s)) (populationsIn r) (seatsIn r) (r .total) (r .house) (r .states) (λ i below. name-there s i good below))
+    same-listing (nameOf s) (nameInRow (rowsOf s)) (readingOf s) (seatsIn (readingOf s)) (λ i below. name-there s i good below)

@@ -3,14 +3,14 @@ mod rows;
 
 use apportionment::STATE_LIMIT;
 use apportionment::refusals;
-use fields::cut;
 use register::Reading;
 ghost use mathlib.Core.Path.{_≡_};
 ghost use Prim.Native.Nat.{_≤_};
 ghost use lib.ListN.{length};
+ghost use Rattle.register.specs.Names.{rowsOf, nameInRow};
+ghost use Rattle.register.specs.inner.Rows.{Placed};
 ghost use Rattle.text.specs.Writing.{Wrote};
 ghost use Rattle.listing.specs.Listing.{listingIn, refused, ListingIs, printedOf};
-ghost use Rattle.listing.specs.Rows.{namesFrom};
 ghost use Rattle.listing.specs.Room.{AllListable};
 ghost use Rattle.listing.specs.Listed.{GoodReading, HandedOver};
 
@@ -35,10 +35,19 @@ fn refused(refusal: u64, line: u64) -> Listed
     }
 }
 
-// The whole listing of what was read. The states' lines in the register start at `rows`.
-fn put_listing(out: &mut [u8], reading: Reading, rows: &[u8], seats: &[u64]) -> usize
-    requires { ⌜ AllListable reading (namesFrom (now rows)) (now seats) ⌝ }
-    ensures { λ r. ⌜ Wrote (now (out .entry)) 0 (listingIn reading (namesFrom (now (rows .entry))) (now (seats .entry))) (now (out .exit)) r ⌝ }
+// The whole listing of what was read. The states' names stand in the rows of the register, from their starts to their ends.
+fn put_listing(
+    out: &mut [u8],
+    reading: Reading,
+    rows: &[u8],
+    starts: &[u32],
+    ends: &[u32],
+    seats: &[u64],
+) -> usize
+    requires listable { ⌜ AllListable reading (nameInRow (now rows)) (now seats) ⌝ }
+    requires placed { ⌜ Placed (reading .states) (now rows) (now starts) (now ends) ⌝ }
+    ensures { λ r. ⌜ Wrote (now (out .entry)) 0 (listingIn reading (nameInRow (now (rows .entry))) (now (seats .entry)))
+        (now (out .exit)) r ⌝ }
 {
     let n = reading.states;
     let method = reading.method;
@@ -48,6 +57,8 @@ fn put_listing(out: &mut [u8], reading: Reading, rows: &[u8], seats: &[u64]) -> 
         out,
         head,
         rows,
+        starts,
+        ends,
         &populations[..n],
         seats,
         reading.total,
@@ -57,12 +68,21 @@ fn put_listing(out: &mut [u8], reading: Reading, rows: &[u8], seats: &[u64]) -> 
 }
 
 // Hands the listing of what was read over to the buffer, if it fits.
-fn hand_over(reading: Reading, rows: &[u8], seats: &[u64], out: &mut [u8]) -> Listed
-    requires { ⌜ AllListable reading (namesFrom (now rows)) (now seats) ⌝ }
-    ensures { λ r. ⌜ HandedOver (listingIn reading (namesFrom (now (rows .entry))) (now (seats .entry))) (now (out .entry)) r (now (out .exit)) ⌝ }
+fn hand_over(
+    reading: Reading,
+    rows: &[u8],
+    starts: &[u32],
+    ends: &[u32],
+    seats: &[u64],
+    out: &mut [u8],
+) -> Listed
+    requires listable { ⌜ AllListable reading (nameInRow (now rows)) (now seats) ⌝ }
+    requires placed { ⌜ Placed (reading .states) (now rows) (now starts) (now ends) ⌝ }
+    ensures { λ r. ⌜ HandedOver (listingIn reading (nameInRow (now (rows .entry))) (now (seats .entry)))
+        (now (out .entry)) r (now (out .exit)) ⌝ }
 {
     let mut page = [0u8; LISTING_ROOM];
-    let size = put_listing(&mut page[..], reading, rows, seats);
+    let size = put_listing(&mut page[..], reading, rows, starts, ends, seats);
     if text::copy_out(&page[..size], out) {
         return Listed {
             refusal: refusals::ACCEPTED,
@@ -74,8 +94,16 @@ fn hand_over(reading: Reading, rows: &[u8], seats: &[u64], out: &mut [u8]) -> Li
 }
 
 // Allots what was read and lists it. The seats go into a lent list, which has a place for each state.
-fn list_states(register: &[u8], reading: Reading, seats: &mut [u64], out: &mut [u8]) -> Listed
-    requires { ⌜ GoodReading (now register) reading × (length (now seats) ≡ reading .states) ⌝ }
+fn list_states(
+    register: &[u8],
+    reading: Reading,
+    starts: &[u32],
+    ends: &[u32],
+    seats: &mut [u64],
+    out: &mut [u8],
+) -> Listed
+    requires read { ⌜ GoodReading (now register) reading × (length (now seats) ≡ reading .states) ⌝ }
+    requires placed { ⌜ Placed (reading .states) (rowsOf (now register)) (now starts) (now ends) ⌝ }
     ensures { λ r. ⌜ ListingIs (now (register .entry)) (now (out .entry)) r (now (out .exit)) ⌝ }
 {
     let n = reading.states;
@@ -85,7 +113,8 @@ fn list_states(register: &[u8], reading: Reading, seats: &mut [u64], out: &mut [
     if allotted.refusal != refusals::ACCEPTED {
         return refused(allotted.refusal, 0);
     }
-    hand_over(reading, cut::rest(register), &seats[..], out)
+    let rows = register::rows::of(register);
+    hand_over(reading, rows, starts, ends, &seats[..], out)
 }
 
 // Writes the listing of a register into the buffer: reading's refusals, allotting's, then 31 exactly if the listing is longer than the
@@ -93,13 +122,22 @@ fn list_states(register: &[u8], reading: Reading, seats: &mut [u64], out: &mut [
 pub fn write_listing(register: &[u8], out: &mut [u8]) -> Listed
     ensures { λ r. ⌜ ListingIs (now (register .entry)) (now (out .entry)) r (now (out .exit)) ⌝ }
 {
-    let reading = register::read(register);
+    let mut starts = [0u32; STATE_LIMIT];
+    let mut ends = [0u32; STATE_LIMIT];
+    let reading = register::read_places(register, &mut starts[..], &mut ends[..]);
     if reading.refusal != refusals::ACCEPTED {
         return refused(reading.refusal, reading.line);
     }
     let n = reading.states;
     let mut seats = [0u64; STATE_LIMIT];
-    list_states(register, reading, &mut seats[..n], out)
+    list_states(
+        register,
+        reading,
+        &starts[..],
+        &ends[..],
+        &mut seats[..n],
+        out,
+    )
 }
 
 // What the allotment program prints: the listing, or a refusal's one line. The page has room for either, and keeps its bytes after it.

@@ -1,16 +1,17 @@
 // The lines of a listing, each written from a place on; see crate `text` for what that place is.
 use apportionment::Method;
 use departure::Departure;
-use fields::cut;
-use lines::pairs;
+use register::rows::name_placed;
 ghost use mathlib.Core.Path.{_≡_};
 ghost use mathlib.Core.List.{[]};
 ghost use Prim.Native.Nat.{ℕ, _<_};
 ghost use lib.ListN.{length};
 ghost use Rattle.departure.specs.inner.Answer.{InLimits};
+ghost use Rattle.register.specs.Names.{nameInRow};
+ghost use Rattle.register.specs.inner.Rows.{Placed};
 ghost use Rattle.text.specs.Writing.{Wrote};
 ghost use Rattle.listing.specs.Listing.{headLine, departureText, stateLine, stateLines};
-ghost use Rattle.listing.specs.Rows.{namesFrom, Rows};
+ghost use Rattle.listing.specs.Rows.{Rows};
 
 // Line 1.
 pub fn put_head(out: &mut [u8], at: usize, method: Method, house: u64, states: u64) -> usize
@@ -63,34 +64,36 @@ fn put_state(
     text::put_byte(out, shown, b'\n')
 }
 
-// The states' lines. Their names stand on the lines of the register that start at `rows`.
+// The states' lines. Their names stand in the rows of the register, from their starts to their ends.
 pub fn put_states(
     out: &mut [u8],
     at: usize,
     rows: &[u8],
+    starts: &[u32],
+    ends: &[u32],
     populations: &[u64],
     seats: &[u64],
     total: u64,
     house: u64,
 ) -> usize
-    requires { ⌜ Wrote (now out) at [] (now out) at × Rows (now populations) (now seats) total house ⌝ }
-    ensures { λ r. ⌜ Wrote (now (out .entry)) at (stateLines (namesFrom (now (rows .entry))) (now (populations .entry)) (now (seats .entry)) total house (length (now (populations .entry)))) (now (out .exit)) r ⌝ }
+    requires begun { ⌜ Wrote (now out) at [] (now out) at × Rows (now populations) (now seats) total house ⌝ }
+    requires placed { ⌜ Placed (length (now populations)) (now rows) (now starts) (now ends) ⌝ }
+    ensures { λ r. ⌜ Wrote (now (out .entry)) at
+        (stateLines (nameInRow (now (rows .entry))) (now (populations .entry)) (now (seats .entry)) total house
+        (length (now (populations .entry)))) (now (out .exit)) r ⌝ }
 {
     let mut next = at;
-    let mut row = rows;
     let mut k = 0;
     while k < populations.len() {
         next = put_state(
             out,
             next,
-            pairs::name_at(row),
+            name_placed(rows, starts, ends, k),
             populations[k],
             seats[k],
             total,
             house,
         );
-        let rest = cut::rest(row);
-        row = rest;
         k += 1;
     }
     next

@@ -3,4 +3,4 @@ pub mod Register
 pub mod Names
 pub mod Sound
 pub mod Examples
-pub mod Kept
+pub mod inner

@@ -14,6 +14,10 @@ use Rattle.register.specs.Register.{readingOf}
 use Rattle.register.specs.declared.Reading.{Reading}
 use Rattle.register.specs.declared.Refusal.{Refusal}
 
+-- The rows of a register: its lines from the first state's on.
+abbrev pub rowsOf : List ℕ → List ℕ
+rowsOf s = restOf s
+
 -- What is left after k lines.
 unfoldable pub linesAfter : (k : ℕ) → List ℕ → List ℕ
 linesAfter zero s = s
@@ -29,11 +33,14 @@ unfolding linesAfter
 lines-step zero s some = absurd (omega arith)
 lines-step (suc k) s some = rw (sub-one (suc k))
 
--- For a caller that walks the lines: one line more is the rest of what is left.
 pub lines-next : (k : ℕ) (s : List ℕ) → linesAfter (suc k) s ≡ restOf (linesAfter k s)
 unfolding linesAfter
 lines-next zero s = refl
 lines-next (suc k) s = lines-next k (restOf s)
+
+-- The name of the state with place k among those whose rows start here: the first field of its line.
+abbrev pub nameInRow : (rows : List ℕ) (k : ℕ) → List ℕ
+nameInRow rows k = nameAt (linesAfter k rows)
 
 -- Reading's refusal and line, then 40 for a place that is not below n; 0 and 0 where there is a name.
 unfoldable pub nameRefusalIn : Reading → (place : ℕ) → Refusal
@@ -45,6 +52,6 @@ nameRefusalIn r place =
 unfoldable pub nameRefusalOf : List ℕ → (place : ℕ) → Refusal
 nameRefusalOf s place = nameRefusalIn (readingOf s) place
 
--- The name of the state with a given place: the first field of its line. Nothing where it is refused.
+-- The name of the state with a given place. Nothing where it is refused.
 unfoldable pub nameOf : List ℕ → (place : ℕ) → List ℕ
-nameOf s place = cond (eqb (nameRefusalOf s place .number) accepted) (nameAt (linesAfter place (restOf s))) []
+nameOf s place = cond (eqb (nameRefusalOf s place .number) accepted) (nameInRow (rowsOf s) place) []

@@ -163,6 +163,9 @@ module _ (s : List ℕ) (good : readingOf s .refusal ≡ accepted) where
       (states-accepted (headOf s) (restOf s) (headOf s .states) 0 0 noPopulations (restOf s)
       (head-sound s head-accepted .states .1) (omega arith) so-far-none (rw reading-is at good))
 
+  pub reading-counted : readingOf s .states ≡ headOf s .states
+  reading-counted = reading-accepted .counted
+
 -- What a caller may take from a reading.
 pub record ReadingSound (r : Reading) : Type 0 where
   pub states : (1 ≤ r .states) × (r .states ≤ stateLimit)

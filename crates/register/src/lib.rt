@@ -1,5 +1,5 @@
-// Reading a register, and the names of its states. A caller that walks the states' lines after a good reading goes by
-// `fields::cut::rest` and `lines::pairs::name_at`.
+// Reading a register, and the names of its states. Crates that need the names of a register that was read go by `rows`.
+pub mod rows;
 mod states;
 
 use apportionment::Method;
@@ -7,12 +7,11 @@ use apportionment::REGISTER_LIMIT;
 use apportionment::STATE_LIMIT;
 use apportionment::refusals::PLACE_OUT_OF_STATES;
 use apportionment::refusals::REGISTER_TOO_LONG;
-use fields::cut;
 use lines::head;
-use lines::pairs;
 ghost use mathlib.Core.Path.{_≡_};
 ghost use Rattle.register.specs.Register.{readingOf};
-ghost use Rattle.register.specs.Names.{linesAfter, nameOf, nameRefusalOf};
+ghost use Rattle.register.specs.Names.{nameOf, nameRefusalOf};
+ghost use Rattle.register.specs.inner.Rows.{PlacesRoom, PlacedIn};
 
 // What reading gives. Refused, all but the number and the line is 0, and the method is leximin.
 pub struct Reading {
@@ -31,9 +30,11 @@ pub struct Refusal {
     pub line: u64,
 }
 
-// Reads a register: 1 for more than 65,536 bytes, then the first faulty line's refusal from the top.
-pub fn read(bytes: &[u8]) -> Reading
-    ensures { λ r. ⌜ r ≡ readingOf (now (bytes .entry)) ⌝ }
+// Reads a register as `read` does, and keeps where the names of its states stand: their starts and ends in `rows::of(bytes)`.
+pub fn read_places(bytes: &[u8], starts: &mut [u32], ends: &mut [u32]) -> Reading
+    requires { ⌜ PlacesRoom (now starts) (now ends) ⌝ }
+    ensures reading { λ r. ⌜ r ≡ readingOf (now (bytes .entry)) ⌝ }
+    ensures placed { λ r. ⌜ PlacedIn (now (bytes .entry)) (now (starts .exit)) (now (ends .exit)) r ⌝ }
 {
     if REGISTER_LIMIT < bytes.len() {
         return states::refused(REGISTER_TOO_LONG, 0);
@@ -42,7 +43,16 @@ pub fn read(bytes: &[u8]) -> Reading
     if head.refusal != 0 {
         return states::refused(head.refusal, 1);
     }
-    states::read_states(head, cut::rest(bytes))
+    states::read_states(head, rows::of(bytes), starts, ends)
+}
+
+// Reads a register: 1 for more than 65,536 bytes, then the first faulty line's refusal from the top.
+pub fn read(bytes: &[u8]) -> Reading
+    ensures { λ r. ⌜ r ≡ readingOf (now (bytes .entry)) ⌝ }
+{
+    let mut starts = [0u32; STATE_LIMIT];
+    let mut ends = [0u32; STATE_LIMIT];
+    read_places(bytes, &mut starts[..], &mut ends[..])
 }
 
 // The refusal of `name`: reading's, then 40 for a place that no state has.
@@ -65,20 +75,6 @@ pub fn name_refusal(bytes: &[u8], place: usize) -> Refusal
     }
 }
 
-// What is left after `k` lines.
-pub fn lines_after(s: &[u8], k: usize) -> &[u8]
-    ensures { λ r. ⌜ now r ≡ linesAfter k (now (s .entry)) ⌝ }
-{
-    let mut t = s;
-    let mut left = k;
-    while 0 < left {
-        let u = cut::rest(t);
-        t = u;
-        left -= 1;
-    }
-    t
-}
-
 // The name of the state with the given place, counted from 0: the part of the register that holds it. Refused, an empty part.
 pub fn name(bytes: &[u8], place: usize) -> &[u8]
     ensures { λ r. ⌜ now r ≡ nameOf (now (bytes .entry)) place ⌝ }
@@ -87,5 +83,5 @@ pub fn name(bytes: &[u8], place: usize) -> &[u8]
     if refusal.number != 0 {
         return &bytes[0..0];
     }
-    pairs::name_at(lines_after(cut::rest(bytes), place))
+    rows::name_on(rows::of(bytes), place)
 }

@@ -16,11 +16,10 @@ use Rattle.apportionment.specs.Limits.{stateLimit, houseLimit, sumLimit}
 use Rattle.apportionment.specs.Refusals.{accepted}
 use Rattle.apportionment.specs.Text.{bytesOf, decimal}
 use Rattle.apportionment.specs.Quantities.{shownOf, shownText}
-use Rattle.fields.specs.Grammar.{wordLimit}
 use Rattle.departure.specs.Answer.{departureRefusal, departureShown}
 use Rattle.departure.specs.inner.Answer.{not-refused}
-use Rattle.lines.specs.Lines.{nameAt}
-use Rattle.register.specs.Names.{linesAfter}
+use Rattle.register.specs.Names.{nameInRow}
+use Rattle.register.specs.inner.Rows.{nameLimit}
 use Rattle.text.specs.inner.Bounds.{decimal-length, decimal-of-sum, decimal-of-house, decimal-of-states, numbers-length, total-line-length, lines-length}
 use Rattle.text.specs.inner.ShownRoom.{shown-room}
 use Rattle.placing.specs.declared.Placing.{Placing}
@@ -68,7 +67,7 @@ pageRoom = stateLimit * weighedRoom + stepRoom
 -- A placing that can be shown, with the lines of the register from its first state's on and the sum of its populations: names are short and
 -- numbers within their limits.
 pub record Showable (rows : List ℕ) (p : Placing) (P : ℕ) : Type 0 where
-  pub named : (i : ℕ) → i < statesIn p → length (nameAt (linesAfter i rows)) ≤ wordLimit
+  pub named : (i : ℕ) → i < statesIn p → length (nameInRow rows i) ≤ nameLimit
   pub peopled : (i : ℕ) → getD (p .populations) i 0 ≤ sumLimit
   pub seated : (i : ℕ) → getD (p .seats) i 0 ≤ seatsLimit
   pub housed : p .house ≤ houseLimit
@@ -104,7 +103,7 @@ departure-length p a P H = by-refusal (eqb (departureRefusal p a P H) accepted) 
 
 -- ---- the lines of the start and the end
 
-state-line-length : (word name : List ℕ) (p a P H : ℕ) → length word ≤ 6 → length name ≤ wordLimit → p ≤ sumLimit → a ≤ seatsLimit
+state-line-length : (word name : List ℕ) (p a P H : ℕ) → length word ≤ 6 → length name ≤ nameLimit → p ≤ sumLimit → a ≤ seatsLimit
     → length (stateLine word name p a P H) ≤ 66
 unfolding stateLine
 state-line-length word name p a P H brief short people seats =
@@ -124,10 +123,10 @@ module _ (rows : List ℕ) (p : Placing) (P : ℕ) (fit : Showable rows p P) whe
         arith,
         few-states p,
         lines-length (stateLines word rows (populationsIn p) (seatsIn p) P (p .house))
-            (λ (i : ℕ). stateLine word (nameAt (linesAfter i rows)) (getD (populationsIn p) i 0) (getD (seatsIn p) i 0) P (p .house))
+            (λ (i : ℕ). stateLine word (nameInRow rows i) (getD (populationsIn p) i 0) (getD (seatsIn p) i 0) P (p .house))
             66 (statesIn p) refl (λ i. refl)
             (λ i below.
-            state-line-length word (nameAt (linesAfter i rows)) (getD (populationsIn p) i 0) (getD (seatsIn p) i 0) P (p .house)
+            state-line-length word (nameInRow rows i) (getD (populationsIn p) i 0) (getD (seatsIn p) i 0) P (p .house)
             brief (fit .named i below) (shown-at p (p .populations) i sumLimit below (fit .peopled i))
             (shown-at p (p .seats) i seatsLimit below (fit .seated i))),
         total-line-length P (p .total) (decimal-of-sum P (fit .summed)) (decimal-of-seats (p .total) (fit .totalled)),
@@ -151,7 +150,7 @@ module _ (rows : List ℕ) (p : Placing) (P : ℕ) (fit : Showable rows p P) whe
 
 -- ---- a step
 
-moved-length : (name : List ℕ) (p a b P H : ℕ) → length name ≤ wordLimit → a ≤ seatsLimit → b ≤ seatsLimit
+moved-length : (name : List ℕ) (p a b P H : ℕ) → length name ≤ nameLimit → a ≤ seatsLimit → b ≤ seatsLimit
     → length (movedText name p a b P H) ≤ 64
 unfolding movedText
 moved-length name p a b P H short from to =
@@ -163,7 +162,7 @@ moved-length name p a b P H short from to =
       departure-length p b P H,
     ))
 
-weighed-length : (step : ℕ) (name : List ℕ) (p a b P H : ℕ) → step ≤ stateLimit → length name ≤ wordLimit → a ≤ seatsLimit → b ≤ seatsLimit
+weighed-length : (step : ℕ) (name : List ℕ) (p a b P H : ℕ) → step ≤ stateLimit → length name ≤ nameLimit → a ≤ seatsLimit → b ≤ seatsLimit
     → length (weighedLine step name p a b P H) ≤ weighedRoom
 unfolding weighedLine
 weighed-length step name p a b P H few short from to =
@@ -182,7 +181,7 @@ verb-length a b = by-test (ltb a b)
     by-test true = omega arith
     by-test false = omega arith
 
-step-length : (step : ℕ) (name : List ℕ) (p a b P H total : ℕ) → step ≤ stateLimit → length name ≤ wordLimit
+step-length : (step : ℕ) (name : List ℕ) (p a b P H total : ℕ) → step ≤ stateLimit → length name ≤ nameLimit
     → a ≤ seatsLimit → b ≤ seatsLimit → total ≤ seatsLimit → length (stepLine step name p a b P H total) ≤ stepRoom
 unfolding stepLine
 step-length step name p a b P H total few short from to whole =
@@ -212,7 +211,7 @@ module _ (rows : List ℕ) (before after : Placing) (P : ℕ) (fit : Showable ro
             weighedRoom (statesIn before) refl (λ i. refl)
             (λ i below.
             let held = shown-at before (before .seats) i seatsLimit below (fit .seated i) in
-            weighed-length (after .steps) (nameAt (linesAfter i rows)) (getD (populationsIn before) i 0) (getD (seatsIn before) i 0)
+            weighed-length (after .steps) (nameInRow rows i) (getD (populationsIn before) i 0) (getD (seatsIn before) i 0)
             (seatsIfMoved adds (getD (seatsIn before) i 0) (before .house)) P (before .house)
             (then .stepped) (fit .named i below) held
             (seats-if-moved adds (getD (seatsIn before) i 0) (before .house) held (fit .housed))),
@@ -223,10 +222,10 @@ module _ (rows : List ℕ) (before after : Placing) (P : ℕ) (fit : Showable ro
   moved-line-length at = by-test (ltb at (statesIn before)) refl
     where
       by-test : (t : Bool) → ltb at (statesIn before) ≡ t
-          → length (cond t (stepLine (after .steps) (nameAt (linesAfter at rows)) (getD (before .populations) at 0)
+          → length (cond t (stepLine (after .steps) (nameInRow rows at) (getD (before .populations) at 0)
           (getD (before .seats) at 0) (getD (after .seats) at 0) P (before .house) (after .total)) []) ≤ stepRoom
       by-test true inside =
-          step-length (after .steps) (nameAt (linesAfter at rows)) (getD (before .populations) at 0) (getD (before .seats) at 0)
+          step-length (after .steps) (nameInRow rows at) (getD (before .populations) at 0) (getD (before .seats) at 0)
           (getD (after .seats) at 0) P (before .house) (after .total) (then .stepped) (fit .named at (ltb-true at (statesIn before) inside))
           (fit .seated at) (then .seated at) (then .totalled)
       by-test false outside = omega arith

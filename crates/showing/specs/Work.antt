@@ -18,8 +18,7 @@ use Rattle.apportionment.specs.Limits.{stateLimit}
 use Rattle.apportionment.specs.Text.{bytesOf, decimal}
 use Rattle.apportionment.specs.Quantities.{shownText}
 use Rattle.departure.specs.Answer.{departureShown}
-use Rattle.lines.specs.Lines.{nameAt}
-use Rattle.register.specs.Names.{linesAfter}
+use Rattle.register.specs.Names.{nameInRow}
 use Rattle.text.specs.Shared.{numbersText, totalLine}
 use Rattle.placing.specs.declared.Placing.{Placing}
 
@@ -43,11 +42,11 @@ stateLine word name p a P H = word ++ name ++ numbersText p a ++ bytesOf "," ++ 
 unfoldable pub stateLines : (word rows ps seats : List ℕ) (P H k : ℕ) → List ℕ
 stateLines word rows ps seats P H zero = []
 stateLines word rows ps seats P H (suc k) =
-    stateLines word rows ps seats P H k ++ stateLine word (nameAt (linesAfter k rows)) (getD ps k 0) (getD seats k 0) P H
+    stateLines word rows ps seats P H k ++ stateLine word (nameInRow rows k) (getD ps k 0) (getD seats k 0) P H
 
 pub state-lines-more : (word rows ps seats : List ℕ) (P H k : ℕ)
     → stateLines word rows ps seats P H (k + 1)
-    ≡ stateLines word rows ps seats P H k ++ stateLine word (nameAt (linesAfter k rows)) (getD ps k 0) (getD seats k 0) P H
+    ≡ stateLines word rows ps seats P H k ++ stateLine word (nameInRow rows k) (getD ps k 0) (getD seats k 0) P H
 unfolding stateLines
 state-lines-more word rows ps seats P H k = rw add-one
 
@@ -71,7 +70,7 @@ weighedLine step name p a b P H =
 -- State k weighed, and the first k states.
 unfoldable pub weighedAt : (step : ℕ) (adds : Bool) (rows ps seats : List ℕ) (P H k : ℕ) → List ℕ
 weighedAt step adds rows ps seats P H k =
-    weighedLine step (nameAt (linesAfter k rows)) (getD ps k 0) (getD seats k 0) (seatsIfMoved adds (getD seats k 0) H) P H
+    weighedLine step (nameInRow rows k) (getD ps k 0) (getD seats k 0) (seatsIfMoved adds (getD seats k 0) H) P H
 
 unfoldable pub weighedLines : (step : ℕ) (adds : Bool) (rows ps seats : List ℕ) (P H k : ℕ) → List ℕ
 weighedLines step adds rows ps seats P H zero = []
@@ -166,7 +165,7 @@ movedAt before after = firstDifference (seatsIn before) (take (statesIn before) 
 unfoldable pub stepText : (at : ℕ) (rows : List ℕ) (before after : Placing) (P : ℕ) → List ℕ
 stepText at rows before after P =
     let line =
-    stepLine (after .steps) (nameAt (linesAfter at rows)) (getD (before .populations) at 0) (getD (before .seats) at 0)
+    stepLine (after .steps) (nameInRow rows at) (getD (before .populations) at 0) (getD (before .seats) at 0)
     (getD (after .seats) at 0) P (before .house) (after .total)
     in
     cond (ltb at (statesIn before)) line []

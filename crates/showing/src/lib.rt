@@ -4,9 +4,8 @@
 mod rows;
 
 use apportionment::STATE_LIMIT;
-use lines::pairs;
 use placing::Placing;
-use register::lines_after;
+use register::rows::name_on;
 ghost use mathlib.Core.Path.{_≡_};
 ghost use mathlib.Core.List.{[]};
 ghost use lib.ListN.{length};
@@ -136,7 +135,7 @@ fn put_step(
             out,
             at,
             after.steps,
-            pairs::name_at(lines_after(rows, place)),
+            name_on(rows, place),
             populations[place],
             old[place],
             new[place],

@@ -1,7 +1,7 @@
 // The lines of the work, each written from a place on; see crate `text` for what that place is.
 use departure::Answer;
-use fields::cut;
-use lines::pairs;
+use register::rows::first_name;
+use register::rows::rest;
 ghost use mathlib.Core.Path.{_≡_};
 ghost use mathlib.Core.List.{[]};
 ghost use lib.ListN.{length};
@@ -51,7 +51,8 @@ fn put_state(
     sum: u64,
     house: u64,
 ) -> usize
-    ensures { λ r. ⌜ Wrote (now (out .entry)) at (stateLine (now (word .entry)) (now (name .entry)) population seats sum house) (now (out .exit)) r ⌝ }
+    ensures { λ r. ⌜ Wrote (now (out .entry)) at (stateLine (now (word .entry)) (now (name .entry)) population seats sum house)
+        (now (out .exit)) r ⌝ }
 {
     let begun = text::put_bytes(out, at, word);
     let named = text::put_bytes(out, begun, name);
@@ -73,7 +74,9 @@ pub fn put_states(
     house: u64,
 ) -> usize
     requires { ⌜ Wrote (now out) at [] (now out) at × (length (now seats) ≡ length (now populations)) ⌝ }
-    ensures { λ r. ⌜ Wrote (now (out .entry)) at (stateLines (now (word .entry)) (now (rows .entry)) (now (populations .entry)) (now (seats .entry)) sum house (length (now (populations .entry)))) (now (out .exit)) r ⌝ }
+    ensures { λ r. ⌜ Wrote (now (out .entry)) at
+        (stateLines (now (word .entry)) (now (rows .entry)) (now (populations .entry)) (now (seats .entry)) sum house
+        (length (now (populations .entry)))) (now (out .exit)) r ⌝ }
 {
     let mut next = at;
     let mut row = rows;
@@ -83,14 +86,14 @@ pub fn put_states(
             out,
             next,
             word,
-            pairs::name_at(row),
+            first_name(row),
             populations[k],
             seats[k],
             sum,
             house,
         );
-        let rest = cut::rest(row);
-        row = rest;
+        let later = rest(row);
+        row = later;
         k += 1;
     }
     next
@@ -145,7 +148,8 @@ fn put_weighed(
     sum: u64,
     house: u64,
 ) -> usize
-    ensures { λ r. ⌜ Wrote (now (out .entry)) at (weighedLine step (now (name .entry)) population seats moved sum house) (now (out .exit)) r ⌝ }
+    ensures { λ r. ⌜ Wrote (now (out .entry)) at (weighedLine step (now (name .entry)) population seats moved sum house)
+        (now (out .exit)) r ⌝ }
 {
     let word = text::put_bytes(out, at, b"weighed,");
     let number = text::put_decimal(out, word, step);
@@ -167,7 +171,9 @@ pub fn put_weighings(
     house: u64,
 ) -> usize
     requires { ⌜ Wrote (now out) at [] (now out) at × (length (now seats) ≡ length (now populations)) ⌝ }
-    ensures { λ r. ⌜ Wrote (now (out .entry)) at (weighedLines step adds (now (rows .entry)) (now (populations .entry)) (now (seats .entry)) sum house (length (now (populations .entry)))) (now (out .exit)) r ⌝ }
+    ensures { λ r. ⌜ Wrote (now (out .entry)) at
+        (weighedLines step adds (now (rows .entry)) (now (populations .entry)) (now (seats .entry)) sum house
+        (length (now (populations .entry)))) (now (out .exit)) r ⌝ }
 {
     let mut next = at;
     let mut row = rows;
@@ -178,15 +184,15 @@ pub fn put_weighings(
             out,
             next,
             step,
-            pairs::name_at(row),
+            first_name(row),
             populations[k],
             held,
             seats_if_moved(adds, held, house),
             sum,
             house,
         );
-        let rest = cut::rest(row);
-        row = rest;
+        let later = rest(row);
+        row = later;
         k += 1;
     }
     next
@@ -215,7 +221,8 @@ pub fn put_step(
     house: u64,
     total: u64,
 ) -> usize
-    ensures { λ r. ⌜ Wrote (now (out .entry)) at (stepLine step (now (name .entry)) population from to sum house total) (now (out .exit)) r ⌝ }
+    ensures { λ r. ⌜ Wrote (now (out .entry)) at (stepLine step (now (name .entry)) population from to sum house total)
+        (now (out .exit)) r ⌝ }
 {
     let word = text::put_bytes(out, at, b"step,");
     let number = text::put_decimal(out, word, step);

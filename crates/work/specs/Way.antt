@@ -23,11 +23,10 @@ use Rattle.claims.specs.inner.LeastOfAll.{leximin-least-of-all}
 use Rattle.apportionment.specs.Allotment.{openRefusal}
 use Rattle.problem.specs.inner.Passed.{OpenPassed, open-passed}
 use Rattle.leximin.specs.inner.Start.{ready-sound}
-use Rattle.fields.specs.Grammar.{wordLimit, restOf, name-length}
-use Rattle.lines.specs.Lines.{nameAt}
 use Rattle.register.specs.Register.{readingOf}
-use Rattle.register.specs.Names.{linesAfter}
-use Rattle.register.specs.Sound.{ReadingSound, reading-sound, reading-named}
+use Rattle.register.specs.Names.{rowsOf, nameInRow}
+use Rattle.register.specs.Sound.{ReadingSound, reading-sound}
+use Rattle.register.specs.inner.Rows.{nameLimit, name-limited}
 use Rattle.register.specs.declared.Reading.{Reading}
 use Rattle.placing.specs.Placing.{padded, started, placingAt, openedOf, steppedOf, refusedWith, peopleOf}
 use Rattle.placing.specs.inner.Lists.{take-padded}
@@ -52,7 +51,7 @@ wayOf start = gap (peopleOf start) (start .house)
 pub record Begun (rows : List ℕ) (start : Placing) (P : ℕ) : Type 0 where
   pub opens : openRefusal (peopleOf start) (start .house) ≡ accepted
   pub first : start ≡ onTheWay start 0
-  pub named : (i : ℕ) → i < length (peopleOf start) → length (nameAt (linesAfter i rows)) ≤ wordLimit
+  pub named : (i : ℕ) → i < length (peopleOf start) → length (nameInRow rows i) ≤ nameLimit
   pub summed : P ≡ sum (peopleOf start)
 
 -- ---- every placing on it can be shown
@@ -93,7 +92,7 @@ module _ (ps : List ℕ) (H : ℕ) (opens : openRefusal ps H ≡ accepted) (m : 
       let least = leximin-least-of-all sound (totalAfter ps H m) (states-at-most-passed sound (passed .seatForEach) m few) in
       omega (arith, padded-at-most (leximinFor ps H (totalAfter ps H m)) i, least .allotted .whole, total-limited)
 
-  way-showable : (rows : List ℕ) → ((i : ℕ) → i < length ps → length (nameAt (linesAfter i rows)) ≤ wordLimit)
+  way-showable : (rows : List ℕ) → ((i : ℕ) → i < length ps → length (nameInRow rows i) ≤ nameLimit)
       → Showable rows (placingAt ps H m) (sum ps)
   unfolding placingAt statesIn
   way-showable rows named =
@@ -152,7 +151,7 @@ module _ {rows : List ℕ} {start : Placing} {P : ℕ} (begun : Begun rows start
 -- ---- a register that opens begins it
 
 start-begins : (rows ps : List ℕ) (H : ℕ) → openRefusal ps H ≡ accepted
-    → ((i : ℕ) → i < length ps → length (nameAt (linesAfter i rows)) ≤ wordLimit) → Begun rows (started ps H) (sum ps)
+    → ((i : ℕ) → i < length ps → length (nameInRow rows i) ≤ nameLimit) → Begun rows (started ps H) (sum ps)
 unfolding started peopleOf
 start-begins rows ps H opens named =
     record {
@@ -164,7 +163,7 @@ start-begins rows ps H opens named =
 
 -- What was read, and opened, neither of them refused.
 pub read-begins : (s : List ℕ) (r : Reading) (o : Placed) → r ≡ readingOf s → r .refusal ≡ accepted
-    → o ≡ openedOf (take (r .states) (r .populations)) (r .house) → o .refusal ≡ accepted → Begun (restOf s) (o .placing) (r .total)
+    → o ≡ openedOf (take (r .states) (r .populations)) (r .house) → o .refusal ≡ accepted → Begun (rowsOf s) (o .placing) (r .total)
 unfolding openedOf
 read-begins s r o read good opened accepts = by-refusal (eqb (openRefusal ps (r .house)) accepted) refl
   where
@@ -177,14 +176,14 @@ read-begins s r o read good opened accepts = by-refusal (eqb (openRefusal ps (r 
     each : length ps ≡ r .states
     each = length-take-le (r .states) (r .populations) (omega (arith, sound .states, sound .populations .room))
 
-    named : (i : ℕ) → i < length ps → length (nameAt (linesAfter i (restOf s))) ≤ wordLimit
+    named : (i : ℕ) → i < length ps → length (nameInRow (rowsOf s) i) ≤ nameLimit
     named i below =
         let inside : i < r .states = omega (arith, each) in
-        name-length _ (reading-named s (rw read at good) i (rw read at inside)) .1
+        name-limited s (rw read at good) i (rw read at inside)
 
-    by-refusal : (t : Bool) → eqb (openRefusal ps (r .house)) accepted ≡ t → Begun (restOf s) (o .placing) (r .total)
+    by-refusal : (t : Bool) → eqb (openRefusal ps (r .house)) accepted ≡ t → Begun (rowsOf s) (o .placing) (r .total)
     by-refusal true t =
         let handed : o ≡ record { refusal = accepted; placing = started ps (r .house) } = rw t at opened in
         let begins : o .placing ≡ started ps (r .house) = ap (λ (x : Placed). x .placing) handed in
-        rw (begins, sound .populations .summed) (start-begins (restOf s) ps (r .house) (eqb-true _ _ t) named)
+        rw (begins, sound .populations .summed) (start-begins (rowsOf s) ps (r .house) (eqb-true _ _ t) named)
     by-refusal false t = absurd (eqb-false _ _ t (sym (ap (λ (x : Placed). x .refusal) (rw t at opened)) ∙ accepts))

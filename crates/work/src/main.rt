@@ -4,8 +4,8 @@
 // is written by crate `showing`; this file only moves bytes and placings.
 use apportionment::STATE_LIMIT;
 use apportionment::refusals::ACCEPTED;
-use fields::cut;
 use placing::Placing;
+use register::rows;
 use showing::PAGE_ROOM;
 ghost use mathlib.Core.Path.{_≡_};
 ghost use mathlib.Core.Bool.{true};
@@ -110,7 +110,7 @@ fn show(register: &[u8]) -> bool {
     if opened.refusal != ACCEPTED {
         return print_refusal(opened.refusal, 0);
     }
-    show_way(cut::rest(register), opened.placing, reading.total)
+    show_way(rows::of(register), opened.placing, reading.total)
 }
 
 fn show_standard_input() {

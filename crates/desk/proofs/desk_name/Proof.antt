@@ -2,6 +2,8 @@
 -- Assumes nothing.
 use borrow.Author.Needs.{needs}
 use borrow.Author.Tests.{eq-eqb, ne-eqb}
+use Rattle.register.specs.Names.{rowsOf}
+use Rattle.register.specs.inner.Rows.{name-of-first}
 use Rattle.desk.proofs.desk_name.Statement.{statement}
 use Rattle.desk.specs.Part.{partIf, partOf, stateLine, line-shorter}
 use Rattle.desk.proofs.desk_name.Tie as tie
@@ -17,32 +19,34 @@ returns c =
       c .before .before .name-refusal .ensures,
     )
 
-rest-requires : tie.Need-rest-requires
-rest-requires c κs = search needs
+of-requires : tie.Need-of-requires
+of-requires c κs = search needs
 
-lines-after-requires : tie.Need-lines-after-requires
-lines-after-requires c κs = search needs
+after-requires : tie.Need-after-requires
+after-requires c κs = search needs
 
-name-at-requires : tie.Need-name-at-requires
-name-at-requires c κs = search needs
+first-name-requires : tie.Need-first-name-requires
+first-name-requires c κs = search needs
 
 sub-start : tie.Need-sub-start
 unfolding stateLine
 sub-start c =
-    let at-rest = c .before .before in
-    let start = at-rest .before .before .before .before .before in
-    rw (c .before .lines-after .ensures, at-rest .rest .ensures) (line-shorter (start .args .bytes .now) (start .args .place))
+    let at-of = c .before .before in
+    let start = at-of .before .before .before .before .before in
+    rw (c .before .after .ensures, at-of .of .ensures) (line-shorter (start .args .bytes .now) (start .args .place))
 
 returns-2 : tie.Need-returns-2
 unfolding partOf partIf stateLine
 returns-2 c =
-    let at-rest = c .before .before in
-    let at-if1 = at-rest .before in
+    let at-of = c .before .before in
+    let at-if1 = at-of .before in
     let at-name-refusal = at-if1 .before .before in
+    let begun = at-name-refusal .before .before in
     rw (
-      c .name-at .ensures,
-      c .before .lines-after .ensures,
-      at-rest .rest .ensures,
+      c .first-name .ensures,
+      c .before .after .ensures,
+      at-of .of .ensures,
+      name-of-first (begun .args .place) (rowsOf (begun .args .bytes .now)),
       rw (at-name-refusal .name-refusal .ensures) at (eq-eqb _ _ (at-if1 .if1 .left)),
     )
 
@@ -52,8 +56,8 @@ desk-name-spec =
     (tie.spec
     name-refusal-requires
     returns
-    rest-requires
-    lines-after-requires
-    name-at-requires
+    of-requires
+    after-requires
+    first-name-requires
     sub-start
     returns-2)

@@ -1,21 +1,33 @@
 -- `listing::hand_over` meets its contract: the whole listing stands at the front of the page, and copying it fits or leaves the buffer.
 -- Assumes nothing.
 use mathlib.Core.Path.{sym}
+use mathlib.Core.List.{List}
+use Prim.Native.Nat.{ℕ}
 use lib.Seq.{length-take-le}
+use Rattle.register.specs.Names.{nameInRow}
 use Rattle.text.specs.inner.Writing.{AtFront, wrote-front}
 use Rattle.listing.specs.Listing.{listingIn}
 use Rattle.listing.specs.Room.{listing-has-room}
-use Rattle.listing.specs.Rows.{namesFrom}
 use Rattle.listing.specs.Listed.{copied-over, too-long}
 use borrow.Author.Needs.{needs}
 use Rattle.listing.proofs.hand_over.Statement.{statement}
 use Rattle.listing.proofs.hand_over.Tie as tie
 
+-- Where nothing is written yet.
+abbrev lent : tie.After-put-listing → tie.After-shared-slice-known3
+lent c = c .before .before .before .before
+
+abbrev start : tie.After-put-listing → tie.Start
+start c = lent c .before .before .before
+
+abbrev listing : tie.After-put-listing → List ℕ
+listing c =
+    let args = start c .args in
+    listingIn (args .reading) (nameInRow (args .rows .now)) (args .seats .now)
+
 -- The listing stands at the front of the page.
-front-of-page : (c : tie.After-put-listing) → AtFront (listingIn (c .before .before .before .before .before .args .reading) (namesFrom (c .before .before .before .before .before .args .rows .now)) (c .before .before .before .before .before .args .seats .now)) (c .put-listing .last .0) (c .put-listing .result)
-front-of-page c =
-    let start = c .before .before .before .before .before in
-    wrote-front (c .put-listing .ensures) (listing-has-room (start .pre))
+front-of-page : (c : tie.After-put-listing) → AtFront (listing c) (c .put-listing .last .0) (c .put-listing .result)
+front-of-page c = wrote-front (c .put-listing .ensures) (listing-has-room (start c .pre .0))
 
 slice-aggregate-put-listing : tie.Need-slice-aggregate-put-listing
 slice-aggregate-put-listing c = search needs
@@ -38,8 +50,8 @@ same-length c = search needs
 returns : tie.Need-returns
 returns c =
     let at-copy-out = c .before .before .before in
-    let start = at-copy-out .before .before .before .before in
-    copied-over (front-of-page start) (at-copy-out .copy-out .ensures .0) (at-copy-out .copy-out .ensures .1) (c .if1 .taken)
+    let put = at-copy-out .before .before .before .before in
+    copied-over (front-of-page put) (at-copy-out .copy-out .ensures .0) (at-copy-out .copy-out .ensures .1) (c .if1 .taken)
 
 refused-requires : tie.Need-refused-requires
 refused-requires c κs = search needs
@@ -50,9 +62,9 @@ same-length-2 c = search needs
 returns-2 : tie.Need-returns-2
 returns-2 c =
     let at-copy-out = c .before .before .before .before in
-    let start = at-copy-out .before .before .before .before in
+    let put = at-copy-out .before .before .before .before in
     rw (c .refused .ensures)
-    (too-long (front-of-page start) (at-copy-out .copy-out .ensures .0) (at-copy-out .copy-out .ensures .1)
+    (too-long (front-of-page put) (at-copy-out .copy-out .ensures .0) (at-copy-out .copy-out .ensures .1)
     (c .before .if1 .left))
 
 pub hand-over-spec : {M : Type 1} → statement M

@@ -9,21 +9,31 @@ use borrow.Author.Needs.{needs}
 use Rattle.listing.proofs.list_states.Statement.{statement}
 use Rattle.listing.proofs.list_states.Tie as tie
 
+-- Where nothing is allotted yet.
+abbrev lent : tie.After-populations → tie.After-shared-slice-known
+lent c = c .before .before .before .before .before
+
+abbrev start : tie.After-populations → tie.Start
+start c = lent c .before
+
 array-share-prefix-populations : tie.Need-array-share-prefix-populations
 array-share-prefix-populations c =
-    omega (
-      arith,
-      good-sound (c .before .before .before .before .pre .0) .states,
-      good-sound (c .before .before .before .before .pre .0) .populations .room,
-    )
+    omega (arith, good-sound (start c .pre .0 .0) .states, good-sound (start c .pre .0 .0) .populations .room)
 
 slice-aggregate-allot : tie.Need-slice-aggregate-allot
 slice-aggregate-allot c =
-    let start = c .before .before .before .before .before in
-    sym (length-take-le _ _ (omega (arith, good-sound (start .pre .0) .states, good-sound (start .pre .0) .populations .room)))
+    let sound = good-sound (start (c .before) .pre .0 .0) in
+    sym (length-take-le _ _ (omega (arith, sound .states, sound .populations .room)))
 
 allot-requires : tie.Need-allot-requires
 allot-requires c κs = search needs
+
+-- Where the seats are allotted, and where that is not refused.
+abbrev begun : tie.After-allot → tie.Start
+begun c = start (c .before .before .before)
+
+abbrev allotted : tie.Else1 → tie.After-allot
+allotted c = c .before .before .before .before
 
 refused-requires : tie.Need-refused-requires
 refused-requires c κs = search needs
@@ -33,20 +43,21 @@ same-length c = search needs
 
 returns : tie.Need-returns
 returns c =
-    let at-allot = c .before .before .before .before .before in
-    let start = at-allot .before .before .before .before .before .before .before in
-    rw (c .refused .ensures) (told-refused (start .pre .0) (start .pre .1) (at-allot .allot .ensures) _ (c .before .if1 .taken))
+    let at = c .before .before .before .before .before in
+    let pre = begun at .pre .0 in
+    rw (c .refused .ensures) (told-refused (pre .0) (pre .1) (at .allot .ensures) _ (c .before .if1 .taken))
 
-rest-requires : tie.Need-rest-requires
-rest-requires c κs = search needs
+of-requires : tie.Need-of-requires
+of-requires c κs = search needs
 
 hand-over-requires : tie.Need-hand-over-requires
 hand-over-requires c κs =
-    let at-rest = c .before .before in
-    let at-if1 = at-rest .before in
-    let at-allot = at-if1 .before .before .before .before in
-    let start = at-allot .before .before .before .before .before .before .before in
-    told-listable (start .pre .0) (start .pre .1) (at-allot .allot .ensures) (at-if1 .if1 .left) (at-rest .rest .ensures)
+    let at-of = c .before .before in
+    let at = allotted (at-of .before) in
+    let pre = begun at .pre in (
+      told-listable (pre .0 .0) (pre .0 .1) (at .allot .ensures) (at-of .before .if1 .left) (at-of .of .ensures),
+      rw (at-of .of .ensures) (pre .1),
+    )
 
 same-length-2 : tie.Need-same-length-2
 same-length-2 c = search needs
@@ -57,11 +68,10 @@ same-length-3 c = search needs
 returns-2 : tie.Need-returns-2
 returns-2 c =
     let at-hand-over = c .before .before in
-    let at-rest = at-hand-over .before .before .before in
-    let at-if1 = at-rest .before in
-    let at-allot = at-if1 .before .before .before .before in
-    let start = at-allot .before .before .before .before .before .before .before in
-    told-listed (start .pre .0) (start .pre .1) (at-allot .allot .ensures) (at-if1 .if1 .left) (at-rest .rest .ensures)
+    let at-of = at-hand-over .before .before .before in
+    let at = allotted (at-of .before) in
+    let pre = begun at .pre .0 in
+    told-listed (pre .0) (pre .1) (at .allot .ensures) (at-of .before .if1 .left) (at-of .of .ensures)
     (at-hand-over .hand-over .ensures)
 
 pub list-states-spec : {M : Type 1} → statement M
@@ -74,7 +84,7 @@ list-states-spec =
     refused-requires
     same-length
     returns
-    rest-requires
+    of-requires
     hand-over-requires
     same-length-2
     same-length-3

@@ -7,31 +7,52 @@ use borrow.Author.Needs.{needs}
 use Rattle.listing.proofs.write_listing.Statement.{statement}
 use Rattle.listing.proofs.write_listing.Tie as tie
 
--- Past the first test the register was read.
-was-read : (c : tie.Else1) → GoodReading (c .before .before .before .before .before .args .register .now) (c .before .before .read .result)
-was-read c = record { reading = c .before .before .read .ensures; good = c .if1 .left }
+-- Where the register was read, past the first test.
+abbrev read : tie.Else1 → tie.After-read-places
+read c = c .before .before .before .before
 
-read-requires : tie.Need-read-requires
-read-requires c κs = search needs
+abbrev start : tie.After-read-places → tie.Start
+start c = c .before .before .before .before .before
+
+was-read : (c : tie.Else1) → GoodReading (start (read c) .args .register .now) (read c .read-places .result)
+was-read c = record { reading = read c .read-places .ensures .0; good = c .if1 .left }
+
+slice-aggregate-read-places : tie.Need-slice-aggregate-read-places
+slice-aggregate-read-places c = search needs
+
+slice-aggregate-read-places-2 : tie.Need-slice-aggregate-read-places-2
+slice-aggregate-read-places-2 c = search needs
+
+read-places-requires : tie.Need-read-places-requires
+read-places-requires c κs = search needs
 
 refused-requires : tie.Need-refused-requires
 refused-requires c κs = search needs
 
 returns : tie.Need-returns
 returns c =
-    rw
-    (c .refused .ensures, c .before .before .before .read .ensures)
-    (reading-refused _ _ (rw (c .before .before .before .read .ensures) at (c .before .if1 .taken)))
-
-array-borrow-prefix-seats : tie.Need-array-borrow-prefix-seats
-array-borrow-prefix-seats c = good-sound (was-read c) .states .1
+    let is = c .before .before .before .before .before .read-places .ensures .0 in
+    rw (c .refused .ensures, is) (reading-refused _ _ (rw is at (c .before .if1 .taken)))
 
 slice-aggregate-list-states : tie.Need-slice-aggregate-list-states
-slice-aggregate-list-states c = simp length-take (omega (arith, good-sound (was-read (c .before)) .states))
+slice-aggregate-list-states c = search needs
+
+slice-aggregate-list-states-2 : tie.Need-slice-aggregate-list-states-2
+slice-aggregate-list-states-2 c = search needs
+
+array-borrow-prefix-seats : tie.Need-array-borrow-prefix-seats
+array-borrow-prefix-seats c = good-sound (was-read (c .before .before)) .states .1
+
+slice-aggregate-list-states-3 : tie.Need-slice-aggregate-list-states-3
+slice-aggregate-list-states-3 c =
+    simp length-take (omega (arith, good-sound (was-read (c .before .before .before)) .states))
 
 list-states-requires : tie.Need-list-states-requires
 list-states-requires c κs =
-    (was-read (c .before .before), simp length-take (omega (arith, good-sound (was-read (c .before .before)) .states)))
+    let else = c .before .before .before .before in (
+      (was-read else, simp length-take (omega (arith, good-sound (was-read else) .states))),
+      read else .read-places .ensures .1 (else .if1 .left),
+    )
 
 same-length : tie.Need-same-length
 same-length c = search needs
@@ -43,11 +64,15 @@ pub write-listing-spec : {M : Type 1} → statement M
 write-listing-spec =
     tie.close
     (tie.spec
-    read-requires
+    slice-aggregate-read-places
+    slice-aggregate-read-places-2
+    read-places-requires
     refused-requires
     returns
-    array-borrow-prefix-seats
     slice-aggregate-list-states
+    slice-aggregate-list-states-2
+    array-borrow-prefix-seats
+    slice-aggregate-list-states-3
     list-states-requires
     same-length
     returns-2)

@@ -23,25 +23,19 @@ returns : tie.Need-returns
 unfolding nameOf
 returns c = rw (rw (c .before .before .before .name-refusal .ensures) at (ne-eqb _ _ (c .before .if1 .taken)))
 
-rest-requires : tie.Need-rest-requires
-rest-requires c κs = search needs
+of-requires : tie.Need-of-requires
+of-requires c κs = search needs
 
-lines-after-requires : tie.Need-lines-after-requires
-lines-after-requires c κs = search needs
-
-name-at-requires : tie.Need-name-at-requires
-name-at-requires c κs = search needs
+name-on-requires : tie.Need-name-on-requires
+name-on-requires c κs = search needs
 
 returns-2 : tie.Need-returns-2
 unfolding nameOf
 returns-2 c =
-    c .name-at .ensures
+    c .name-on .ensures
     ∙ rw (
-      c .before .lines-after .ensures,
-      c .before .before .rest .ensures,
-      rw
-          (c .before .before .before .before .before .name-refusal .ensures) at
-          (eq-eqb _ _ (c .before .before .before .if1 .left)),
+      c .before .of .ensures,
+      rw (c .before .before .before .before .name-refusal .ensures) at (eq-eqb _ _ (c .before .before .if1 .left)),
     )
 
 pub name-spec : {M : Type 1} → statement M
@@ -53,7 +47,6 @@ name-spec =
     part-result-start
     part-result-end
     returns
-    rest-requires
-    lines-after-requires
-    name-at-requires
+    of-requires
+    name-on-requires
     returns-2)

@@ -10,51 +10,48 @@ use Rattle.showing.proofs.put_step.Tie as tie
 states-in-requires : tie.Need-states-in-requires
 states-in-requires c κs = search needs
 
-lines-after-requires : tie.Need-lines-after-requires
-lines-after-requires c κs = search needs
-
-name-at-requires : tie.Need-name-at-requires
-name-at-requires c κs = search needs
+name-on-requires : tie.Need-name-on-requires
+name-on-requires c κs = search needs
 
 mul-put-step : tie.Need-mul-put-step
 unfolding statesIn
 mul-put-step c =
-    let at-if1 = c .before .before .before .before .before .before in
+    let at-if1 = c .before .before .before .before .before in
     let at-states-in = at-if1 .before in
     omega (arith, at-if1 .if1 .taken, at-states-in .states-in .ensures)
 
 array-read-put-step : tie.Need-array-read-put-step
 unfolding statesIn
 array-read-put-step c =
-    let at-if1 = c .before .before .before .before .before .before in
+    let at-if1 = c .before .before .before .before .before in
     let at-states-in = at-if1 .before in
     omega (arith, at-if1 .if1 .taken, at-states-in .states-in .ensures)
 
 mul-put-step-2 : tie.Need-mul-put-step-2
 unfolding statesIn
 mul-put-step-2 c =
-    let at-if1 = c .before .before .before .before .before .before in
+    let at-if1 = c .before .before .before .before .before in
     let at-states-in = at-if1 .before in
     omega (arith, at-if1 .if1 .taken, at-states-in .states-in .ensures)
 
 array-read-put-step-2 : tie.Need-array-read-put-step-2
 unfolding statesIn
 array-read-put-step-2 c =
-    let at-if1 = c .before .before .before .before .before .before in
+    let at-if1 = c .before .before .before .before .before in
     let at-states-in = at-if1 .before in
     omega (arith, at-if1 .if1 .taken, at-states-in .states-in .ensures)
 
 mul-put-step-3 : tie.Need-mul-put-step-3
 unfolding statesIn
 mul-put-step-3 c =
-    let at-if1 = c .before .before .before .before .before .before in
+    let at-if1 = c .before .before .before .before .before in
     let at-states-in = at-if1 .before in
     omega (arith, at-if1 .if1 .taken, at-states-in .states-in .ensures)
 
 array-read-put-step-3 : tie.Need-array-read-put-step-3
 unfolding statesIn
 array-read-put-step-3 c =
-    let at-if1 = c .before .before .before .before .before .before in
+    let at-if1 = c .before .before .before .before .before in
     let at-states-in = at-if1 .before in
     omega (arith, at-if1 .if1 .taken, at-states-in .states-in .ensures)
 
@@ -68,13 +65,12 @@ returns : tie.Need-returns
 unfolding stepText
 returns c =
     let at-put-step = c .before .before in
-    let at-name-at = at-put-step .before in
-    let at-lines-after = at-name-at .before in
-    let at-if1 = at-lines-after .before .before .before .before .before in
+    let at-name-on = at-put-step .before in
+    let at-if1 = at-name-on .before .before .before .before .before in
     let at-states-in = at-if1 .before in
     rw
     (lt-ltb _ _ (rw (at-states-in .states-in .ensures) at (at-if1 .if1 .taken)))
-    (rw (at-name-at .name-at .ensures, at-lines-after .lines-after .ensures) at (at-put-step .put-step .ensures))
+    (rw (at-name-on .name-on .ensures) at (at-put-step .put-step .ensures))
 
 returns-2 : tie.Need-returns-2
 unfolding stepText
@@ -85,8 +81,7 @@ put-step-spec =
     tie.close
     (tie.spec
     states-in-requires
-    lines-after-requires
-    name-at-requires
+    name-on-requires
     mul-put-step
     array-read-put-step
     mul-put-step-2

@@ -45,14 +45,14 @@ print-refusal-requires-2 c κs = search needs
 returns-2 : tie.Need-returns-2
 returns-2 c = search needs
 
-rest-requires : tie.Need-rest-requires
-rest-requires c κs = search needs
+of-requires : tie.Need-of-requires
+of-requires c κs = search needs
 
 show-way-requires : tie.Need-show-way-requires
 show-way-requires c κs =
     let opening = c .before .before .before in
     let tested = opening .before .before .before in
-    rw (c .rest .ensures)
+    rw (c .of .ensures)
     (read-begins _ _ _ (tested .before .before .read .ensures) (tested .if1 .left) (opening .«open» .ensures) (c .before .if2 .left))
 
 returns-3 : tie.Need-returns-3
@@ -70,6 +70,6 @@ show-spec =
     open-requires
     print-refusal-requires-2
     returns-2
-    rest-requires
+    of-requires
     show-way-requires
     returns-3)

@@ -7,7 +7,7 @@ use native.Mathlib.Omega.{arith}
 use borrow.Author.Count.{below-more}
 use Rattle.apportionment.specs.Lists.{sameList}
 use Rattle.lines.specs.Fingerprints.{fingerprintOf}
-use Rattle.lines.specs.Places.{nameOn, NamesKept, stands-itself, used-on, used-on-none}
+use Rattle.lines.specs.Places.{nameOn, NamesKept, kept-printed, used-on, used-on-none}
 use borrow.Author.Needs.{needs}
 use Rattle.lines.proofs.pairs.is_kept.Statement.{statement}
 use Rattle.lines.proofs.pairs.is_kept.Tie as tie
@@ -37,7 +37,7 @@ answer-is :
     sameList (nameOn (turn c .loop .i) (args .first .now)) (args .name .now) ≡ c .is-name-there .result
 answer-is c =
     let name = start (turn c .before) .args .name .now in
-    ap (λ part. sameList part name) (sym (turn c .loop .inv .0 .each (turn c .loop .i) (omega arith) .there))
+    ap (λ part. sameList part name) (sym (turn c .loop .inv .0 .places .each (turn c .loop .i) (omega arith) .there))
     ∙ sym (c .is-name-there .ensures)
 
 loop-holds : tie.Need-loop-holds Inv-loop μ-loop
@@ -45,34 +45,40 @@ loop-holds c =
     let pre = start c .pre in
     (pre .0, pre .1, omega arith, λ j below. absurd (omega arith))
 
+mul-a : tie.Need-mul-a Inv-loop μ-loop
+mul-a c = omega (arith, c .before .loop .inv .0 .places .few)
+
+shared-slice-read-a : tie.Need-shared-slice-read-a Inv-loop μ-loop
+shared-slice-read-a c =
+    let places = c .before .before .loop .inv .0 .places in
+    omega (arith, places .few, places .room .0)
+
+cast-a : tie.Need-cast-a Inv-loop μ-loop
+cast-a c = omega (arith, c .shared-slice-known6 .given (c .before .before .loop .i))
+
+mul-e : tie.Need-mul-e Inv-loop μ-loop
+mul-e c = omega (arith, c .before .before .loop .inv .0 .places .few)
+
+shared-slice-read-e : tie.Need-shared-slice-read-e Inv-loop μ-loop
+shared-slice-read-e c =
+    let places = c .before .before .before .loop .inv .0 .places in
+    omega (arith, places .few, places .room .1)
+
+cast-e : tie.Need-cast-e Inv-loop μ-loop
+cast-e c = omega (arith, c .shared-slice-known7 .given (c .before .before .before .loop .i))
+
 mul-is-name-there : tie.Need-mul-is-name-there Inv-loop μ-loop
-mul-is-name-there c = omega (arith, c .before .loop .inv .0 .few)
+mul-is-name-there c = omega (arith, c .before .before .before .loop .inv .0 .places .few)
 
 shared-slice-read-is-name-there : tie.Need-shared-slice-read-is-name-there Inv-loop μ-loop
 shared-slice-read-is-name-there c =
-    let kept = c .before .before .loop .inv .0 in
-    omega (arith, kept .few, kept .room .1)
-
-mul-is-name-there-2 : tie.Need-mul-is-name-there-2 Inv-loop μ-loop
-mul-is-name-there-2 c = omega (arith, c .before .before .loop .inv .0 .few)
-
-shared-slice-read-is-name-there-2 : tie.Need-shared-slice-read-is-name-there-2 Inv-loop μ-loop
-shared-slice-read-is-name-there-2 c =
-    let kept = c .before .before .before .loop .inv .0 in
-    omega (arith, kept .few, kept .room .2)
-
-mul-is-name-there-3 : tie.Need-mul-is-name-there-3 Inv-loop μ-loop
-mul-is-name-there-3 c = omega (arith, c .before .before .before .loop .inv .0 .few)
-
-shared-slice-read-is-name-there-3 : tie.Need-shared-slice-read-is-name-there-3 Inv-loop μ-loop
-shared-slice-read-is-name-there-3 c =
     let kept = c .before .before .before .before .loop .inv .0 in
-    omega (arith, kept .few, kept .room .0)
+    omega (arith, kept .places .few, kept .room)
 
 is-name-there-requires : tie.Need-is-name-there-requires Inv-loop μ-loop
 is-name-there-requires c κs =
     let inv = c .before .before .before .before .loop .inv in
-    (stands-itself (inv .0 .each _ (omega arith)), inv .1)
+    (kept-printed (inv .0) _ (omega arith), inv .1)
 
 returns : tie.Need-returns Inv-loop μ-loop
 returns c = sym (used-on _ _ _ (turn (c .before) .loop .i) (omega arith) (answer-is (c .before) ∙ c .if1 .taken))
@@ -98,12 +104,14 @@ is-kept-spec =
     Inv-loop
     μ-loop
     loop-holds
+    mul-a
+    shared-slice-read-a
+    cast-a
+    mul-e
+    shared-slice-read-e
+    cast-e
     mul-is-name-there
     shared-slice-read-is-name-there
-    mul-is-name-there-2
-    shared-slice-read-is-name-there-2
-    mul-is-name-there-3
-    shared-slice-read-is-name-there-3
     is-name-there-requires
     returns
     add-i

@@ -16,7 +16,7 @@ start c = c .before .before .before .before .before
 slice-aggregate-holds : tie.Need-slice-aggregate-holds
 slice-aggregate-holds c =
     let kept = start (c .before) .pre .0 in
-    sym (length-take-le _ _ (omega (arith, kept .few, kept .room .0)))
+    sym (length-take-le _ _ (omega (arith, kept .places .few, kept .room)))
 
 holds-requires : tie.Need-holds-requires
 holds-requires c κs = search needs

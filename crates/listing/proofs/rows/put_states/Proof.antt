@@ -1,34 +1,46 @@
--- `listing::rows::put_states` meets its contract. The loop's invariant: the lines of the first k states were written, and `row` starts at
--- the next one's line; the measure is the states that are left.
+-- `listing::rows::put_states` meets its contract. The loop's invariant: the lines of the first k states were written; the measure is the
+-- states that are left.
 -- Assumes nothing.
-use native.Mathlib.Numerals.{add-one}
-use Rattle.register.specs.Names.{linesAfter, lines-next}
-use Rattle.listing.specs.Rows.{namesFrom, state-lines-more}
-use borrow.Author.Needs.{needs}
-use mathlib.Core.Path.{_≡_, refl}
+use mathlib.Core.Path.{_≡_}
 use Prim.Native.Nat.{_≤_, _-_}
 use native.Mathlib.Omega.{arith}
 use lib.ListN.{length}
+use Rattle.register.specs.Names.{nameInRow}
+use Rattle.register.specs.inner.Rows.{placed-at}
 use Rattle.text.specs.Writing.{Wrote}
 use Rattle.text.specs.inner.Writing.{wrote-then, wrote-length}
 use Rattle.listing.specs.Listing.{stateLines}
+use Rattle.listing.specs.Rows.{state-lines-more}
+use borrow.Author.Needs.{needs}
 use Rattle.listing.proofs.rows.put_states.Statement.{statement}
 use Rattle.listing.proofs.rows.put_states.Tie as tie
 
 abbrev Inv-loop : tie.InvT-loop
-Inv-loop out₀ at rows populations seats total house next₀ row₀ k₀ out next row k =
-    (k ≤ length populations) × (row ≡ linesAfter k rows) × Wrote out₀ at
-    (stateLines (namesFrom rows) populations seats total house k) out next
+Inv-loop out₀ at rows starts ends populations seats total house next₀ k₀ out next k =
+    (k ≤ length populations) × Wrote out₀ at (stateLines (nameInRow rows) populations seats total house k) out next
 
 abbrev μ-loop : tie.MeasureT-loop
-μ-loop out₀ at rows populations seats total house next₀ row₀ k₀ out next row k = length populations - k
+μ-loop out₀ at rows starts ends populations seats total house next₀ k₀ out next k = length populations - k
+
+-- Where nothing is written yet.
+abbrev lent : tie.After-shared-slice-known5 Inv-loop μ-loop → tie.After-slice-known Inv-loop μ-loop
+lent c = c .before .before .before .before .before
+
+abbrev start : tie.After-shared-slice-known5 Inv-loop μ-loop → tie.Start Inv-loop μ-loop
+start c = lent c .before
+
+-- Where the turn of the loop starts.
+abbrev turn : tie.After-name-placed Inv-loop μ-loop → tie.At-loop Inv-loop μ-loop
+turn c = c .before .before .before
 
 loop-holds : tie.Need-loop-holds Inv-loop μ-loop
-unfolding linesAfter stateLines
-loop-holds c = (omega arith, refl, c .before .before .before .before .pre .0)
+unfolding stateLines
+loop-holds c = (omega arith, start c .pre .0 .0)
 
-name-at-requires : tie.Need-name-at-requires Inv-loop μ-loop
-name-at-requires c κs = search needs
+name-placed-requires : tie.Need-name-placed-requires Inv-loop μ-loop
+name-placed-requires c κs =
+    let at = c .before .before in
+    placed-at (start (at .before) .pre .1) (at .loop .k) (omega arith)
 
 mul-put-state : tie.Need-mul-put-state Inv-loop μ-loop
 mul-put-state c = search needs
@@ -37,23 +49,15 @@ shared-slice-read-put-state : tie.Need-shared-slice-read-put-state Inv-loop μ-l
 shared-slice-read-put-state c = search needs
 
 mul-put-state-2 : tie.Need-mul-put-state-2 Inv-loop μ-loop
-mul-put-state-2 c =
-    let start = c .before .before .before .before .before .before .before .before .before in
-    omega (arith, start .pre .1 .paired)
+mul-put-state-2 c = omega (arith, start (turn (c .before) .before) .pre .0 .1 .paired)
 
 shared-slice-read-put-state-2 : tie.Need-shared-slice-read-put-state-2 Inv-loop μ-loop
-shared-slice-read-put-state-2 c =
-    let start = c .before .before .before .before .before .before .before .before .before .before in
-    omega (arith, start .pre .1 .paired)
+shared-slice-read-put-state-2 c = omega (arith, start (turn (c .before .before) .before) .pre .0 .1 .paired)
 
 put-state-requires : tie.Need-put-state-requires Inv-loop μ-loop
 put-state-requires c κs =
-    let at-loop = c .before .before .before .before .before in
-    let start = at-loop .before .before .before .before .before in
-    start .pre .1 .each (at-loop .loop .k) (omega arith)
-
-rest-requires : tie.Need-rest-requires Inv-loop μ-loop
-rest-requires c κs = search needs
+    let at = turn (c .before .before) in
+    start (at .before) .pre .0 .1 .each (at .loop .k) (omega arith)
 
 add-k : tie.Need-add-k Inv-loop μ-loop
 add-k c = search needs
@@ -63,24 +67,20 @@ loop-less c = search needs
 
 loop-again : tie.Need-loop-again Inv-loop μ-loop
 loop-again c =
-    let at-put-state = c .before .before .before in
-    let at-name-at = at-put-state .before .before .before in
-    let at-loop = at-name-at .before .before .before in
-    let start = at-loop .before .before .before .before .before in (
+    let put = c .before .before in
+    let named = put .before .before .before in (
       omega arith,
-      cc (add-one (at-loop .loop .k), lines-next (at-loop .loop .k) (start .args .rows .now)),
-      rw state-lines-more
-          (wrote-then (at-loop .loop .inv .2)
-          (rw (at-name-at .name-at .ensures, at-loop .loop .inv .1) at (at-put-state .put-state .ensures))),
+      rw state-lines-more (wrote-then (turn named .loop .inv .1) (rw (named .name-placed .ensures) at (put .put-state .ensures))),
     )
 
 same-length : tie.Need-same-length Inv-loop μ-loop
-same-length c = wrote-length (c .before .loop .inv .2)
+same-length c = wrote-length (c .before .loop .inv .1)
 
 returns : tie.Need-returns Inv-loop μ-loop
 returns c =
-    let start = c .before .before .before .before .before .before in
-    let all : (c .before .loop .k) ≡ length (start .args .populations .now) = omega arith in rw all at (c .before .loop .inv .2)
+    let at = c .before in
+    let all : at .loop .k ≡ length (start (at .before) .args .populations .now) = omega arith in
+    rw all at (at .loop .inv .1)
 
 pub put-states-spec : {M : Type 1} → statement M
 put-states-spec =
@@ -89,13 +89,12 @@ put-states-spec =
     Inv-loop
     μ-loop
     loop-holds
-    name-at-requires
+    name-placed-requires
     mul-put-state
     shared-slice-read-put-state
     mul-put-state-2
     shared-slice-read-put-state-2
     put-state-requires
-    rest-requires
     add-k
     loop-less
     loop-again

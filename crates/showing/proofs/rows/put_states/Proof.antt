@@ -2,11 +2,11 @@
 -- Assumes nothing.
 use mathlib.Core.Path.{_≡_, refl}
 use Prim.Native.Nat.{_≤_, _-_}
-use native.Mathlib.Numerals.{add-one}
 use native.Mathlib.Omega.{arith}
 use borrow.Author.Needs.{needs}
 use lib.ListN.{length}
-use Rattle.register.specs.Names.{linesAfter, lines-next}
+use Rattle.register.specs.Names.{linesAfter}
+use Rattle.register.specs.inner.Rows.{rows-next, name-of-first}
 use Rattle.showing.specs.Work.{stateLines, state-lines-more}
 use Rattle.text.specs.Writing.{Wrote}
 use Rattle.text.specs.inner.Writing.{wrote-then, wrote-length}
@@ -27,8 +27,8 @@ loop-holds c =
     let start = c .before .before .before .before .before in
     (omega arith, refl, (start .pre) .0)
 
-name-at-requires : tie.Need-name-at-requires Inv-loop μ-loop
-name-at-requires c κs = search needs
+first-name-requires : tie.Need-first-name-requires Inv-loop μ-loop
+first-name-requires c κs = search needs
 
 mul-put-state : tie.Need-mul-put-state Inv-loop μ-loop
 mul-put-state c = search needs
@@ -61,14 +61,14 @@ loop-less c = search needs
 loop-again : tie.Need-loop-again Inv-loop μ-loop
 loop-again c =
     let at-put-state = c .before .before .before in
-    let at-name-at = at-put-state .before .before .before in
-    let at-loop = at-name-at .before .before .before in
+    let at-first-name = at-put-state .before .before .before in
+    let at-loop = at-first-name .before .before .before in
     let start = at-loop .before .before .before .before .before .before in (
       omega arith,
-      cc (add-one (at-loop .loop .k), lines-next (at-loop .loop .k) (start .args .rows .now)),
+      cc (rows-next (at-loop .loop .k) (start .args .rows .now)),
       rw state-lines-more
           (wrote-then (at-loop .loop .inv .2)
-          (rw (at-name-at .name-at .ensures, at-loop .loop .inv .1) at (at-put-state .put-state .ensures))),
+          (rw (at-first-name .first-name .ensures, at-loop .loop .inv .1, name-of-first (at-loop .loop .k) (start .args .rows .now)) at (at-put-state .put-state .ensures))),
     )
 
 same-length : tie.Need-same-length Inv-loop μ-loop
@@ -86,7 +86,7 @@ put-states-spec =
     Inv-loop
     μ-loop
     loop-holds
-    name-at-requires
+    first-name-requires
     mul-put-state
     shared-slice-read-put-state
     mul-put-state-2

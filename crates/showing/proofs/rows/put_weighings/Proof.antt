@@ -2,11 +2,11 @@
 -- Assumes nothing.
 use mathlib.Core.Path.{_≡_, refl}
 use Prim.Native.Nat.{_≤_, _-_}
-use native.Mathlib.Numerals.{add-one}
 use native.Mathlib.Omega.{arith}
 use borrow.Author.Needs.{needs}
 use lib.ListN.{length}
-use Rattle.register.specs.Names.{linesAfter, lines-next}
+use Rattle.register.specs.Names.{linesAfter}
+use Rattle.register.specs.inner.Rows.{rows-next, name-of-first}
 use Rattle.showing.specs.Work.{weighedAt, weighedLines, weighed-lines-more}
 use Rattle.text.specs.Writing.{Wrote}
 use Rattle.text.specs.inner.Writing.{wrote-then, wrote-length}
@@ -31,8 +31,8 @@ mul-held c = search needs
 shared-slice-read-held : tie.Need-shared-slice-read-held Inv-loop μ-loop
 shared-slice-read-held c = search needs
 
-name-at-requires : tie.Need-name-at-requires Inv-loop μ-loop
-name-at-requires c κs = search needs
+first-name-requires : tie.Need-first-name-requires Inv-loop μ-loop
+first-name-requires c κs = search needs
 
 mul-put-weighed : tie.Need-mul-put-weighed Inv-loop μ-loop
 mul-put-weighed c = search needs
@@ -60,15 +60,15 @@ unfolding weighedAt
 loop-again c =
     let at-put-weighed = c .before .before .before in
     let at-seats-if-moved = at-put-weighed .before in
-    let at-name-at = at-seats-if-moved .before .before in
-    let at-loop = at-name-at .before .before .before .before in
+    let at-first-name = at-seats-if-moved .before .before in
+    let at-loop = at-first-name .before .before .before .before in
     let start = at-loop .before .before .before .before .before in (
       omega arith,
-      cc (add-one (at-loop .loop .k), lines-next (at-loop .loop .k) (start .args .rows .now)),
+      cc (rows-next (at-loop .loop .k) (start .args .rows .now)),
       rw weighed-lines-more
           (wrote-then (at-loop .loop .inv .2)
           (rw
-          (at-seats-if-moved .seats-if-moved .ensures, at-name-at .name-at .ensures, at-loop .loop .inv .1) at
+          (at-seats-if-moved .seats-if-moved .ensures, at-first-name .first-name .ensures, at-loop .loop .inv .1, name-of-first (at-loop .loop .k) (start .args .rows .now)) at
           (at-put-weighed .put-weighed .ensures))),
     )
 
@@ -89,7 +89,7 @@ put-weighings-spec =
     loop-holds
     mul-held
     shared-slice-read-held
-    name-at-requires
+    first-name-requires
     mul-put-weighed
     shared-slice-read-put-weighed
     seats-if-moved-requires

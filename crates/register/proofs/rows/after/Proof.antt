@@ -1,17 +1,17 @@
--- `lines_after` passes one line at a time: what is left after all of them is what is left after those to come.
+-- `after` passes one row at a time: what is left after all of them is what is left after those to come.
 -- Assumes nothing.
 use mathlib.Core.Path.{_≡_, refl, sym, _∙_}
 use Rattle.register.specs.Names.{linesAfter, lines-none, lines-step}
 use borrow.Author.Needs.{needs}
 use native.Mathlib.Omega.{arith}
-use Rattle.register.proofs.lines_after.Statement.{statement}
-use Rattle.register.proofs.lines_after.Tie as tie
+use Rattle.register.proofs.rows.after.Statement.{statement}
+use Rattle.register.proofs.rows.after.Tie as tie
 
 abbrev Inv-loop : tie.InvT-loop
-Inv-loop s k t₀ left₀ t left = linesAfter k s ≡ linesAfter left t
+Inv-loop rows k t₀ left₀ t left = linesAfter k rows ≡ linesAfter left t
 
 abbrev μ-loop : tie.MeasureT-loop
-μ-loop s k t₀ left₀ t left = left
+μ-loop rows k t₀ left₀ t left = left
 
 loop-holds : tie.Need-loop-holds Inv-loop μ-loop
 loop-holds c = refl
@@ -31,7 +31,7 @@ loop-again c = c .before .before .loop .inv ∙ lines-step _ _ (omega arith) ∙
 returns : tie.Need-returns Inv-loop μ-loop
 returns c = sym (c .before .loop .inv ∙ lines-none _ _ (omega arith))
 
-pub lines-after-spec : {M : Type 1} → statement M
-lines-after-spec =
+pub after-spec : {M : Type 1} → statement M
+after-spec =
     tie.close
     (tie.spec Inv-loop μ-loop loop-holds rest-requires sub-left loop-less loop-again returns)
