@@ -2,7 +2,7 @@
 use apportionment::REGISTER_LIMIT;
 use libc::STDIN_FILENO;
 use libc::STDOUT_FILENO;
-ghost use Rattle.sizes.specs.inner.Sizes.{Counts};
+ghost use Rattle.io.specs.Counts.{Counts};
 
 // Room for a register and one byte more, so that a longer input is told from one that just fits.
 pub const REGISTER_ROOM: usize = REGISTER_LIMIT + 1;

@@ -7,7 +7,7 @@ use mathlib.Core.List.{List}
 use Prim.Native.Nat.{ℕ, _≤_, _-_}
 use lib.ListN.{length}
 use lib.Seq.{length-take-le}
-use Rattle.sizes.specs.inner.Sizes.{Counts}
+use Rattle.io.specs.Counts.{Counts}
 use Rattle.streams.proofs.read_from.Statement.{statement}
 use Rattle.streams.proofs.read_from.Tie as tie
 

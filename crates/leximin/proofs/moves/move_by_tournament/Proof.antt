@@ -7,8 +7,7 @@ use Prim.Native.Nat.{_≤_, _-_}
 use native.Mathlib.Omega.{arith}
 use native.Mathlib.Nat.{le-antisymm}
 use Rattle.leximin.specs.inner.Moves.{Moving, none-moved, movable-sided, moving-sided}
-use Rattle.leximin.specs.inner.Moves.{root-inside, root-has-seats, root-due}
-use Rattle.divisor.specs.inner.Moves.{root-moved}
+use Rattle.leximin.specs.inner.Moves.{root-inside, root-has-seats, root-moved, root-due}
 use Rattle.leximin.proofs.moves.move_by_tournament.Statement.{statement}
 use Rattle.leximin.proofs.moves.move_by_tournament.Tie as tie
 
