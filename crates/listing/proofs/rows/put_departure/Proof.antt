@@ -4,7 +4,7 @@ use native.Mathlib.Nat.{pos-of-ne-zero}
 use borrow.Author.Tests.{eq-eqb, ne-eqb}
 use Rattle.departure.specs.inner.Answer.{moderate-size}
 use Rattle.departure.specs.inner.Exact.{exact-shown, exact-size}
-use Rattle.departure.proofs.Signed.{read-back}
+use Rattle.wide.proofs.Signed.{read-back}
 use Rattle.text.specs.inner.Writing.{wrote-then}
 use Rattle.listing.specs.Listing.{departureText}
 use borrow.Author.Needs.{needs}
