@@ -4,7 +4,7 @@
 use mathlib.Core.Path.{_≡_, sym, _∙_}
 use mathlib.Core.Logic.{_⊎_, inl, inr}
 use mathlib.Core.List.{List}
-use Prim.Native.Nat.{ℕ, zero, suc, _+_, _-_, _*_, _/_, _^_, _≤_, _<_}
+use Prim.Native.Nat.{ℕ, zero, suc, _+_, _-_, _*_, _/_, _^_, _≤_, _<_, min, max}
 use native.Mathlib.Omega.{arith}
 use native.Mathlib.Nat.{mul-le-mul, div-mul-le-self, le-trans}
 use native.Mathlib.Numerals.{add-one}
@@ -16,17 +16,17 @@ use Rattle.remainders.specs.declared.Range.{Range}
 
 -- ---- an end drawn in
 
--- From `low` up to `end` no state stands.
-pub record DrawnUp (xs : List ℕ) (low high end : ℕ) : Type 0 where
+-- From `low` up to `end` none of the first k states stands.
+pub record DrawnUp (xs : List ℕ) (low high k end : ℕ) : Type 0 where
   pub notBelow : low ≤ end
   pub within : end ≤ high
-  pub same : reaching xs end (length xs) ≡ reaching xs low (length xs)
+  pub same : reaching xs end k ≡ reaching xs low k
 
--- Above `end` and up to `high` no state stands.
-pub record DrawnDown (xs : List ℕ) (low high end : ℕ) : Type 0 where
+-- Above `end` and up to `high` none of the first k states stands.
+pub record DrawnDown (xs : List ℕ) (low high k end : ℕ) : Type 0 where
   pub within : low ≤ end
   pub notAbove : end ≤ high
-  pub same : reaching xs (end + 1) (length xs) ≡ reaching xs (high + 1) (length xs)
+  pub same : reaching xs (end + 1) k ≡ reaching xs (high + 1) k
 
 -- Two standings that are reached as often by the first k states are so by one more, if it reaches both or neither.
 reached-alike : (xs : List ℕ) (a b k : ℕ) → reaching xs a k ≡ reaching xs b k
@@ -43,32 +43,54 @@ reached-alike xs a b k e place = by-place place (counted xs a k) (counted xs b k
     by-place (inr p) (inl l) (inr r) = absurd (omega arith)
     by-place (inr p) (inr l) r = absurd (omega arith)
 
--- The lower end, drawn in to `best` by the first k states, goes on to `next`, which leaves out no state from `low` on.
-pub drawn-up-on : (xs : List ℕ) (low best next k : ℕ) → reaching xs best k ≡ reaching xs low k
-    → low ≤ next → next ≤ best → (getD xs k 0 < low) ⊎ (next ≤ getD xs k 0)
-    → reaching xs next (k + 1) ≡ reaching xs low (k + 1)
-drawn-up-on xs low best next k e l h own =
-    let so-far : reaching xs next k ≡ reaching xs low k = omega (arith, falls xs low next k l, falls xs next best k h) in
-    reached-alike xs next low k so-far (by-own own)
+-- One state more: the end is drawn in to it, if it stands between.
+pub drawn-up-on : (xs : List ℕ) (low high k best own next : ℕ) → DrawnUp xs low high k best
+    → ((low ≤ getD xs k 0) × (own ≡ getD xs k 0)) ⊎ ((getD xs k 0 < low) × (own ≡ high)) → next ≡ min best own
+    → DrawnUp xs low high (k + 1) next
+drawn-up-on xs low high k best own next so-far place e = record {
+  notBelow = from place;
+  within = omega (arith, so-far .within);
+  same = reached-alike xs next low k still (alike place);
+}
   where
-    by-own : (getD xs k 0 < low) ⊎ (next ≤ getD xs k 0)
-        → ((getD xs k 0 < next) × (getD xs k 0 < low)) ⊎ ((next ≤ getD xs k 0) × (low ≤ getD xs k 0))
-    by-own (inl p) = inl (omega arith, p)
-    by-own (inr p) = inr (p, omega arith)
+    from : ((low ≤ getD xs k 0) × (own ≡ getD xs k 0)) ⊎ ((getD xs k 0 < low) × (own ≡ high)) → low ≤ next
+    from (inl w) = omega (arith, so-far .notBelow)
+    from (inr w) = omega (arith, so-far .notBelow, so-far .within)
 
--- The upper end in the same way.
-pub drawn-down-on : (xs : List ℕ) (high best next k : ℕ) → reaching xs (best + 1) k ≡ reaching xs (high + 1) k
-    → best ≤ next → next ≤ high → (high < getD xs k 0) ⊎ (getD xs k 0 ≤ next)
-    → reaching xs (next + 1) (k + 1) ≡ reaching xs (high + 1) (k + 1)
-drawn-down-on xs high best next k e l h own =
-    let so-far : reaching xs (next + 1) k ≡ reaching xs (high + 1) k
-    = omega (arith, falls xs (best + 1) (next + 1) k (omega arith), falls xs (next + 1) (high + 1) k (omega arith)) in
-    reached-alike xs (next + 1) (high + 1) k so-far (by-own own)
+    still : reaching xs next k ≡ reaching xs low k
+    still = omega (arith, so-far .same, falls xs low next k (from place), falls xs next best k (omega arith))
+
+    alike : ((low ≤ getD xs k 0) × (own ≡ getD xs k 0)) ⊎ ((getD xs k 0 < low) × (own ≡ high))
+        → ((getD xs k 0 < next) × (getD xs k 0 < low)) ⊎ ((next ≤ getD xs k 0) × (low ≤ getD xs k 0))
+    alike (inl w) = inr (omega arith, w .0)
+    alike (inr w) = inl (omega (arith, from place), w .0)
+
+pub drawn-down-on : (xs : List ℕ) (low high k best own next : ℕ) → DrawnDown xs low high k best
+    → ((getD xs k 0 ≤ high) × (own ≡ getD xs k 0)) ⊎ ((high < getD xs k 0) × (own ≡ low)) → next ≡ max best own
+    → DrawnDown xs low high (k + 1) next
+drawn-down-on xs low high k best own next so-far place e = record {
+  within = omega (arith, so-far .within);
+  notAbove = to place;
+  same = reached-alike xs (next + 1) (high + 1) k still (alike place);
+}
   where
-    by-own : (high < getD xs k 0) ⊎ (getD xs k 0 ≤ next)
+    to : ((getD xs k 0 ≤ high) × (own ≡ getD xs k 0)) ⊎ ((high < getD xs k 0) × (own ≡ low)) → next ≤ high
+    to (inl w) = omega (arith, so-far .notAbove)
+    to (inr w) = omega (arith, so-far .notAbove, so-far .within)
+
+    still : reaching xs (next + 1) k ≡ reaching xs (high + 1) k
+    still =
+        omega (
+          arith,
+          so-far .same,
+          falls xs (best + 1) (next + 1) k (omega arith),
+          falls xs (next + 1) (high + 1) k (omega (arith, to place)),
+        )
+
+    alike : ((getD xs k 0 ≤ high) × (own ≡ getD xs k 0)) ⊎ ((high < getD xs k 0) × (own ≡ low))
         → ((getD xs k 0 < next + 1) × (getD xs k 0 < high + 1)) ⊎ ((next + 1 ≤ getD xs k 0) × (high + 1 ≤ getD xs k 0))
-    by-own (inl p) = inr (omega arith, omega arith)
-    by-own (inr p) = inl (omega arith, omega arith)
+    alike (inl w) = inl (omega arith, omega arith)
+    alike (inr w) = inr (omega (arith, to place), omega arith)
 
 -- ---- ranges that hold the bar
 

@@ -3,9 +3,8 @@
 -- Assumes nothing.
 use mathlib.Core.Path.{_≡_, refl, sym, ap, _∙_}
 use mathlib.Core.Bool.{Bool, true, false, cond}
-use mathlib.Core.Logic.{_⊎_, inl, inr}
 use mathlib.Core.List.{List}
-use Prim.Native.Nat.{ℕ, _+_, _-_, _^_, _≤_, _<_}
+use Prim.Native.Nat.{ℕ, _+_, _-_, _^_, _≤_, _<_, min, max}
 use native.Mathlib.Omega.{arith}
 use lib.Dec.{ltb, eqb}
 use lib.ListN.{length, getD}
@@ -53,22 +52,20 @@ spans-none f least greatest = record {
 }
 
 -- One number more, and ends drawn out to leave it within.
-pub spans-on : (f : ℕ → ℕ) (k least greatest low high own top : ℕ) → Spans f k least greatest → own ≡ f k → f k ≤ top
-    → low ≤ least → (own < 0) ⊎ (low ≤ own) → greatest ≤ high → (top < own) ⊎ (own ≤ high) → Spans f (k + 1) low high
-spans-on f k least greatest low high own top so-far e below l to-low h to-high = record {
-  low = λ (i : ℕ) (m : i < k + 1). by-low i m (eqb i k) refl to-low;
-  high = λ (i : ℕ) (m : i < k + 1). by-high i m (eqb i k) refl to-high;
+pub spans-on : (f : ℕ → ℕ) (k least greatest low high own : ℕ) → Spans f k least greatest → own ≡ f k
+    → low ≡ min least own → high ≡ max greatest own → Spans f (k + 1) low high
+spans-on f k least greatest low high own so-far e l h = record {
+  low = λ (i : ℕ) (m : i < k + 1). by-low i m (eqb i k) refl;
+  high = λ (i : ℕ) (m : i < k + 1). by-high i m (eqb i k) refl;
 }
   where
-    by-low : (i : ℕ) → i < k + 1 → (t : Bool) → eqb i k ≡ t → (own < 0) ⊎ (low ≤ own) → low ≤ f i
-    by-low i m true d (inl w) = absurd (omega arith)
-    by-low i m true d (inr w) = rw (eqb-true i k d) (omega (arith, e))
-    by-low i m false d w = omega (arith, so-far .low i (omega (arith, eqb-false i k d)))
+    by-low : (i : ℕ) → i < k + 1 → (t : Bool) → eqb i k ≡ t → low ≤ f i
+    by-low i m true d = rw (eqb-true i k d) (omega (arith, e, l))
+    by-low i m false d = omega (arith, l, so-far .low i (omega (arith, eqb-false i k d)))
 
-    by-high : (i : ℕ) → i < k + 1 → (t : Bool) → eqb i k ≡ t → (top < own) ⊎ (own ≤ high) → f i ≤ high
-    by-high i m true d (inl w) = absurd (omega (arith, e))
-    by-high i m true d (inr w) = rw (eqb-true i k d) (omega (arith, e))
-    by-high i m false d w = omega (arith, so-far .high i (omega (arith, eqb-false i k d)))
+    by-high : (i : ℕ) → i < k + 1 → (t : Bool) → eqb i k ≡ t → f i ≤ high
+    by-high i m true d = rw (eqb-true i k d) (omega (arith, e, h))
+    by-high i m false d = omega (arith, h, so-far .high i (omega (arith, eqb-false i k d)))
 
 -- The lists after filling, and what it hands back.
 pub record Filled (ps : List ℕ) (H : ℕ) (standings seats : List ℕ) (r : Parts) : Type 0 where

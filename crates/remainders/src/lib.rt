@@ -2,7 +2,7 @@
 use apportionment::STATE_LIMIT;
 ghost use mathlib.Core.Path.{_≡_};
 ghost use mathlib.Core.Logic.{_⊎_};
-ghost use Prim.Native.Nat.{_+_, _*_, _/_, _^_, _≤_, _<_};
+ghost use Prim.Native.Nat.{_*_, _/_, _^_, _≤_, _<_, min, max};
 ghost use lib.ListN.{length};
 ghost use Rattle.apportionment.specs.Remainders.{remainderSeats};
 ghost use Rattle.remainders.specs.WholeParts.{Given};
@@ -27,32 +27,22 @@ fn top_standing(total: u64) -> u64
     total
 }
 
-// The lesser of `best` and `own`, where `own` is `low` or more.
-fn least_from(own: u64, low: u64, best: u64) -> u64
-    requires { ⌜ low ≤ best ⌝ }
-    ensures { λ r. ⌜ (low ≤ r) × (r ≤ best) × ((own < low) ⊎ (r ≤ own)) ⌝ }
+fn lesser(a: u64, b: u64) -> u64
+    ensures { λ r. ⌜ r ≡ min a b ⌝ }
 {
-    if best < own {
-        return best;
+    if a < b {
+        return a;
     }
-    if own < low {
-        return best;
-    }
-    own
+    b
 }
 
-// The greater of `best` and `own`, where `own` is `high` or less.
-fn greatest_to(own: u64, high: u64, best: u64) -> u64
-    requires { ⌜ best ≤ high ⌝ }
-    ensures { λ r. ⌜ (best ≤ r) × (r ≤ high) × ((high < own) ⊎ (own ≤ r)) ⌝ }
+fn greater(a: u64, b: u64) -> u64
+    ensures { λ r. ⌜ r ≡ max a b ⌝ }
 {
-    if own < best {
-        return best;
+    if a < b {
+        return b;
     }
-    if high < own {
-        return best;
-    }
-    own
+    a
 }
 
 // What filling hands back: the seats given as whole parts, and the least and the greatest standing.
@@ -86,8 +76,8 @@ fn fill_parts(
         seats[i] = whole;
         standings[i] = own;
         given += whole;
-        least = least_from(own, 0, least);
-        greatest = greatest_to(own, top, greatest);
+        least = lesser(least, own);
+        greatest = greater(greatest, own);
         i += 1;
     }
     Parts {
@@ -112,15 +102,35 @@ fn reaching(standings: &[u64], least: u64) -> u64
     count
 }
 
+// `own` where it is `low` or more, and `none` otherwise. (Told apart from the lesser of two, it waits for no other state.)
+fn not_below(own: u64, low: u64, none: u64) -> u64
+    ensures { λ r. ⌜ ((low ≤ own) × (r ≡ own)) ⊎ ((own < low) × (r ≡ none)) ⌝ }
+{
+    if own < low {
+        return none;
+    }
+    own
+}
+
+// `own` where it is `high` or less, and `none` otherwise.
+fn not_above(own: u64, high: u64, none: u64) -> u64
+    ensures { λ r. ⌜ ((own ≤ high) × (r ≡ own)) ⊎ ((high < own) × (r ≡ none)) ⌝ }
+{
+    if high < own {
+        return none;
+    }
+    own
+}
+
 // The least standing from `low` to `high`, or `high` where there is none: no state stands at `low` or above it and below the answer.
 fn drawn_up(standings: &[u64], low: u64, high: u64) -> u64
     requires { ⌜ low ≤ high ⌝ }
-    ensures { λ r. ⌜ DrawnUp (now (standings .entry)) low high r ⌝ }
+    ensures { λ r. ⌜ DrawnUp (now (standings .entry)) low high (length (now (standings .entry))) r ⌝ }
 {
     let mut best = high;
     let mut j = 0;
     while j < standings.len() {
-        best = least_from(standings[j], low, best);
+        best = lesser(best, not_below(standings[j], low, high));
         j += 1;
     }
     best
@@ -129,12 +139,12 @@ fn drawn_up(standings: &[u64], low: u64, high: u64) -> u64
 // The greatest standing from `low` to `high`, or `low` where there is none: no state stands above the answer and at `high` or below.
 fn drawn_down(standings: &[u64], low: u64, high: u64) -> u64
     requires { ⌜ low ≤ high ⌝ }
-    ensures { λ r. ⌜ DrawnDown (now (standings .entry)) low high r ⌝ }
+    ensures { λ r. ⌜ DrawnDown (now (standings .entry)) low high (length (now (standings .entry))) r ⌝ }
 {
     let mut best = low;
     let mut j = 0;
     while j < standings.len() {
-        best = greatest_to(standings[j], high, best);
+        best = greater(best, not_above(standings[j], high, low));
         j += 1;
     }
     best
@@ -153,7 +163,7 @@ struct Range {
 // apart.
 fn lower_end(standings: &[u64], low: u64, high: u64, loose: bool) -> u64
     requires { ⌜ low ≤ high ⌝ }
-    ensures { λ r. ⌜ DrawnUp (now (standings .entry)) low high r ⌝ }
+    ensures { λ r. ⌜ DrawnUp (now (standings .entry)) low high (length (now (standings .entry))) r ⌝ }
 {
     if loose {
         return drawn_up(standings, low, high);
@@ -164,7 +174,7 @@ fn lower_end(standings: &[u64], low: u64, high: u64, loose: bool) -> u64
 // The upper end, in the same way.
 fn upper_end(standings: &[u64], low: u64, high: u64, loose: bool) -> u64
     requires { ⌜ low ≤ high ⌝ }
-    ensures { λ r. ⌜ DrawnDown (now (standings .entry)) low high r ⌝ }
+    ensures { λ r. ⌜ DrawnDown (now (standings .entry)) low high (length (now (standings .entry))) r ⌝ }
 {
     if loose {
         return drawn_down(standings, low, high);

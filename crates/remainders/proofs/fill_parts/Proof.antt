@@ -90,11 +90,11 @@ add-given c =
       start .pre .0 .passed .houseWithin,
     )
 
-least-from-requires : tie.Need-least-from-requires Inv-loop μ-loop
-least-from-requires c κs = search needs
+lesser-requires : tie.Need-lesser-requires Inv-loop μ-loop
+lesser-requires c κs = search needs
 
-greatest-to-requires : tie.Need-greatest-to-requires Inv-loop μ-loop
-greatest-to-requires c κs = search needs
+greater-requires : tie.Need-greater-requires Inv-loop μ-loop
+greater-requires c κs = search needs
 
 add-i : tie.Need-add-i Inv-loop μ-loop
 add-i c = search needs
@@ -117,15 +117,15 @@ loop-again c =
     let same = start .pre .0 .totalIs in
     let whole = whole-part-is ps (start .args .total) H i same in
     let own = stood .standing .ensures ∙ ap (λ (P : ℕ). standingOf p P H) same in
-    let least = c .before .least-from .ensures in
-    let greatest = c .greatest-to .ensures in
+    let least = c .before .lesser .ensures in
+    let greatest = c .greater .ensures in
     let below : standingAt ps H i ≤ top .top-standing .result
     = omega (arith, standing-below-top p (sum ps) H (sum-above-zero ps H (start .pre .0 .passed)), top .top-standing .ensures, same) in (
       fill-goes-on _ _ _ _ _ (tested .loop-test .taken) own (so-far .0),
       fill-goes-on _ _ _ _ _ (tested .loop-test .taken) whole (so-far .1),
       omega (arith, so-far .2, sum-of-one-more (wholePart ps H) i, whole),
-      spans-on _ _ _ _ _ _ _ _ (so-far .3) own below (least .1) (least .2) (greatest .0) (greatest .2),
-      greatest .1,
+      spans-on _ _ _ _ _ _ _ (so-far .3) own least greatest,
+      omega (arith, so-far .4, own, below, greatest),
     )
 
 same-length : tie.Need-same-length Inv-loop μ-loop
@@ -170,8 +170,8 @@ fill-parts-spec =
     mul-standings
     slice-write-standings
     add-given
-    least-from-requires
-    greatest-to-requires
+    lesser-requires
+    greater-requires
     add-i
     loop-less
     loop-again
