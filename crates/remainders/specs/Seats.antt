@@ -13,13 +13,10 @@ use Rattle.apportionment.specs.Lists.{sum, listOf}
 use Rattle.apportionment.specs.Remainders.{wholePart, seatsLeft, remainderSeatsAt, remainderSeats}
 use Rattle.problem.specs.Passed.{Passed}
 use Rattle.remainders.specs.Building.{length-of, getD-of, is-list-of, list-of-agrees, sum-of-one-more, FilledTo}
-use Rattle.remainders.specs.WholeParts.{wholeParts, sum-above-zero, whole-parts-within, left-within-states}
+use Rattle.remainders.specs.WholeParts.{wholeParts, whole-parts-within, left-within-states}
 use Rattle.remainders.specs.Standing.{
   standingAt,
-  topStanding,
   standingsOf,
-  standing-below-top,
-  top-fits,
   extraIn,
   rank-is,
   withExtraAt,
@@ -73,7 +70,6 @@ pub record Filled (ps : List ℕ) (H : ℕ) (standings seats : List ℕ) (r : Pa
   pub seatsAre : seats ≡ wholeParts ps H
   pub givenIs : r .given ≡ sum (wholeParts ps H)
   pub spans : Spans (standingAt ps H) (length ps) (r .least) (r .greatest)
-  pub belowTop : r .greatest ≤ topStanding (sum ps)
 
 -- Standings and seats of as many states, with room for one more seat each.
 pub record HasRoom (xs seats : List ℕ) : Type 0 where
@@ -102,9 +98,8 @@ is-searchable ps H xs seats r ok filled = record {
   some = omega (arith, long, ok .someState);
   few = omega (arith, long, filled .givenIs, left-within-states ps H ok);
   ordered = omega (arith, filled .spans .low 0 (ok .someState), filled .spans .high 0 (ok .someState));
-  fits = omega (arith, filled .belowTop, top-fits (sum ps) (ok .sumWithin));
-  noneAbove = none-above xs (r .greatest) (λ (i : ℕ) (h : i < length xs). rw (stands i h) (filled .spans .high i (omega (arith, long)))) (length xs) (omega arith);
-  allReach = all-reach xs (r .least) (λ (i : ℕ) (h : i < length xs). rw (stands i h) (filled .spans .low i (omega (arith, long)))) (length xs) (omega arith);
+  noneAbove = none-above xs (r .greatest) above (length xs) (omega arith);
+  allReach = all-reach xs (r .least) below (length xs) (omega arith);
 }
   where
     long : length xs ≡ length ps
@@ -112,6 +107,12 @@ is-searchable ps H xs seats r ok filled = record {
 
     stands : (i : ℕ) → i < length xs → getD xs i 0 ≡ standingAt ps H i
     stands i h = ap (λ (l : List ℕ). getD l i 0) (filled .standingsAre) ∙ getD-of (standingAt ps H) (length ps) i (omega (arith, long))
+
+    below : (i : ℕ) → i < length xs → r .least ≤ getD xs i 0
+    below i h = rw (stands i h) (filled .spans .low i (omega (arith, long)))
+
+    above : (i : ℕ) → i < length xs → getD xs i 0 ≤ r .greatest
+    above i h = rw (stands i h) (filled .spans .high i (omega (arith, long)))
 
 -- ---- serving, and the definition
 
@@ -173,7 +174,8 @@ served-in-parts xs bar spare before place after room s =
     (λ (i : ℕ) (h : i < length before).
     getD-of (servedFromAt xs bar place after) (length after) i (omega (arith, s .done .long)) ∙ by-place i h (ltb i place) refl)
   where
-    by-place : (i : ℕ) → i < length before → (t : Bool) → ltb i place ≡ t → servedFromAt xs bar place after i ≡ servedAt xs bar spare before i
+    by-place : (i : ℕ) → i < length before → (t : Bool) → ltb i place ≡ t
+        → servedFromAt xs bar place after i ≡ servedAt xs bar spare before i
     by-place i h true e = rw e (omega (arith, s .done .right i (ltb-true i place e)))
     by-place i h false e =
         let later : place ≤ i = ltb-false i place e in

@@ -1,17 +1,17 @@
 // Largest remainders: each state has its whole part, and those who stand highest for them the seats that are left.
 use apportionment::STATE_LIMIT;
 ghost use mathlib.Core.Path.{_≡_};
-ghost use mathlib.Core.Logic.{_⊎_};
 ghost use Prim.Native.Nat.{_*_, _/_, _^_, _≤_, _<_, min, max};
 ghost use lib.ListN.{length};
 ghost use Rattle.apportionment.specs.Remainders.{remainderSeats};
 ghost use Rattle.remainders.specs.WholeParts.{Given};
-ghost use Rattle.remainders.specs.Standing.{standingOf, topStanding, withExtra};
+ghost use Rattle.remainders.specs.Standing.{standingOf, withExtra};
 ghost use Rattle.remainders.specs.Bar.{reaching, extraBy, spareAfter};
-ghost use Rattle.remainders.specs.Search.{DrawnUp, DrawnDown, HoldsBar, Narrower, Searchable, BarFound};
+ghost use Rattle.remainders.specs.Search.{NotBelow, NotAbove, DrawnUp, DrawnDown, HoldsBar, Narrower, Searchable, BarFound};
 ghost use Rattle.remainders.specs.Seats.{Filled, HasRoom, RoomFrom, ServedTo, servedFrom, served};
 
-// The number by which a state of this population and whole part stands for a seat that is left, the larger first: its remainder.
+// The number by which a state of this population and whole part stands for a seat that is left, the larger first: its remainder. This
+// function alone says what a standing is; the search for the bar compares standings and knows nothing else of them.
 fn standing(population: u64, whole: u64, total: u64, house: u64) -> u64
     requires { ⌜ (population * house < 2 ^ 64) × (whole ≡ population * house / total) ⌝ }
     ensures { λ r. ⌜ r ≡ standingOf population total house ⌝ }
@@ -19,14 +19,10 @@ fn standing(population: u64, whole: u64, total: u64, house: u64) -> u64
     population * house - whole * total
 }
 
-// No state stands above this: a remainder is less than what it is a remainder by, the total. This function and `standing` alone say what a
-// standing is; the search for the bar compares standings and knows nothing else of them.
-fn top_standing(total: u64) -> u64
-    ensures { λ r. ⌜ r ≡ topStanding total ⌝ }
-{
-    total
-}
+// The largest number there is: no state stands above it.
+const LARGEST: u64 = 18_446_744_073_709_551_615;
 
+// The lesser and the greater of two.
 fn lesser(a: u64, b: u64) -> u64
     ensures { λ r. ⌜ r ≡ min a b ⌝ }
 {
@@ -64,9 +60,8 @@ fn fill_parts(
     requires { ⌜ length (now standings) ≡ length (now populations) ⌝ }
     ensures { λ r. ⌜ Filled (now (populations .entry)) house (now (standings .exit)) (now (seats .exit)) r ⌝ }
 {
-    let top = top_standing(total);
     let mut given: u64 = 0;
-    let mut least = top;
+    let mut least = LARGEST;
     let mut greatest: u64 = 0;
     let mut i = 0;
     while i < populations.len() {
@@ -102,9 +97,9 @@ fn reaching(standings: &[u64], least: u64) -> u64
     count
 }
 
-// `own` where it is `low` or more, and `none` otherwise. (Told apart from the lesser of two, it waits for no other state.)
+// `own` where it is `low` or more, and `none` otherwise: apart from `lesser`, so that this is worked out for several states at once.
 fn not_below(own: u64, low: u64, none: u64) -> u64
-    ensures { λ r. ⌜ ((low ≤ own) × (r ≡ own)) ⊎ ((own < low) × (r ≡ none)) ⌝ }
+    ensures { λ r. ⌜ NotBelow own low none r ⌝ }
 {
     if own < low {
         return none;
@@ -114,7 +109,7 @@ fn not_below(own: u64, low: u64, none: u64) -> u64
 
 // `own` where it is `high` or less, and `none` otherwise.
 fn not_above(own: u64, high: u64, none: u64) -> u64
-    ensures { λ r. ⌜ ((own ≤ high) × (r ≡ own)) ⊎ ((high < own) × (r ≡ none)) ⌝ }
+    ensures { λ r. ⌜ NotAbove own high none r ⌝ }
 {
     if high < own {
         return none;
