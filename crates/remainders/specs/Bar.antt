@@ -5,7 +5,7 @@ use mathlib.Core.Path.{_≡_, refl, sym, _∙_}
 use mathlib.Core.Bool.{Bool, true, false, cond}
 use mathlib.Core.Logic.{_⊎_, inl, inr}
 use mathlib.Core.List.{List}
-use Prim.Native.Nat.{ℕ, zero, suc, _+_, _-_, _^_, _≤_, _<_}
+use Prim.Native.Nat.{ℕ, zero, suc, _+_, _-_, _≤_, _<_}
 use native.Mathlib.Omega.{arith}
 use native.Mathlib.Numerals.{add-one}
 use native.Mathlib.Nat.{zero-add, suc-add}
@@ -90,7 +90,9 @@ just-as-many xs left bar just =
 -- Going down from where nobody stands, there is a bar.
 bar-below : (xs : List ℕ) (left : ℕ) → left ≤ length xs
     → (top : ℕ) → reaching xs (top + 1) (length xs) ≤ left → (bar : ℕ) × Bar xs left bar
-bar-below xs left few zero h = (0, record { above = h; enough = omega (arith, all-reach xs 0 (λ (i : ℕ) (l : i < length xs). omega arith) (length xs) (omega arith)) })
+bar-below xs left few zero h =
+    let all = all-reach xs 0 (λ (i : ℕ) (l : i < length xs). omega arith) (length xs) (omega arith) in
+    (0, record { above = h; enough = omega (arith, all) })
 bar-below xs left few (suc top) h = by-test (leb (reaching xs (top + 1) (length xs)) left) refl (bar-below xs left few top)
   where
     by-test : (t : Bool) → leb (reaching xs (top + 1) (length xs)) left ≡ t

@@ -4,38 +4,44 @@
 use mathlib.Core.Path.{_≡_, sym, _∙_}
 use mathlib.Core.Logic.{_⊎_, inl, inr}
 use mathlib.Core.List.{List}
-use Prim.Native.Nat.{ℕ, zero, suc, _+_, _-_, _*_, _/_, _^_, _≤_, _<_}
+use Prim.Native.Nat.{ℕ, _+_, _-_, _*_, _/_, _≤_, _<_, min, max}
 use native.Mathlib.Omega.{arith}
 use native.Mathlib.Nat.{mul-le-mul, div-mul-le-self, le-trans}
-use native.Mathlib.Numerals.{add-one}
 use lib.ListN.{length, getD}
-use Rattle.remainders.specs.Building.{count-none}
-use Rattle.remainders.specs.Standing.{reaches}
 use Rattle.remainders.specs.Bar.{reaching, Counted, counted, falls, Bar, just-as-many}
 use Rattle.remainders.specs.declared.Range.{Range}
 
 -- ---- an end drawn in
 
--- From `low` up to `end` no state stands.
-pub record DrawnUp (xs : List ℕ) (low high end : ℕ) : Type 0 where
+-- A standing that is not below `low`, or else another number; and one that is not above `high`.
+abbrev pub NotBelow : (own low none r : ℕ) → Type 0
+NotBelow own low none r = ((low ≤ own) × (r ≡ own)) ⊎ ((own < low) × (r ≡ none))
+
+abbrev pub NotAbove : (own high none r : ℕ) → Type 0
+NotAbove own high none r = ((own ≤ high) × (r ≡ own)) ⊎ ((high < own) × (r ≡ none))
+
+-- From `low` up to `end` none of the first k states stands.
+pub record DrawnUp (xs : List ℕ) (low high k end : ℕ) : Type 0 where
   pub notBelow : low ≤ end
   pub within : end ≤ high
-  pub same : reaching xs end (length xs) ≡ reaching xs low (length xs)
+  pub same : reaching xs end k ≡ reaching xs low k
 
--- Above `end` and up to `high` no state stands.
-pub record DrawnDown (xs : List ℕ) (low high end : ℕ) : Type 0 where
+-- Above `end` and up to `high` none of the first k states stands.
+pub record DrawnDown (xs : List ℕ) (low high k end : ℕ) : Type 0 where
   pub within : low ≤ end
   pub notAbove : end ≤ high
-  pub same : reaching xs (end + 1) (length xs) ≡ reaching xs (high + 1) (length xs)
+  pub same : reaching xs (end + 1) k ≡ reaching xs (high + 1) k
 
--- Two standings that are reached as often by the first k states are so by one more, if it reaches both or neither.
-reached-alike : (xs : List ℕ) (a b k : ℕ) → reaching xs a k ≡ reaching xs b k
-    → ((getD xs k 0 < a) × (getD xs k 0 < b)) ⊎ ((a ≤ getD xs k 0) × (b ≤ getD xs k 0))
+-- A state reaches two standings, or neither.
+abbrev Alike : (own a b : ℕ) → Type 0
+Alike own a b = ((own < a) × (own < b)) ⊎ ((a ≤ own) × (b ≤ own))
+
+-- Standings that are reached as often by the first k states are so by one more, if it reaches both or neither.
+reached-alike : (xs : List ℕ) (a b k : ℕ) → reaching xs a k ≡ reaching xs b k → Alike (getD xs k 0) a b
     → reaching xs a (k + 1) ≡ reaching xs b (k + 1)
 reached-alike xs a b k e place = by-place place (counted xs a k) (counted xs b k)
   where
-    by-place : ((getD xs k 0 < a) × (getD xs k 0 < b)) ⊎ ((a ≤ getD xs k 0) × (b ≤ getD xs k 0))
-        → Counted xs a k → Counted xs b k → reaching xs a (k + 1) ≡ reaching xs b (k + 1)
+    by-place : Alike (getD xs k 0) a b → Counted xs a k → Counted xs b k → reaching xs a (k + 1) ≡ reaching xs b (k + 1)
     by-place (inl p) (inl l) r = absurd (omega arith)
     by-place (inl p) (inr l) (inl r) = absurd (omega arith)
     by-place (inl p) (inr l) (inr r) = omega arith
@@ -43,43 +49,61 @@ reached-alike xs a b k e place = by-place place (counted xs a k) (counted xs b k
     by-place (inr p) (inl l) (inr r) = absurd (omega arith)
     by-place (inr p) (inr l) r = absurd (omega arith)
 
--- The lower end, drawn in to `best` by the first k states, goes on to `next`, which leaves out no state from `low` on.
-pub drawn-up-on : (xs : List ℕ) (low best next k : ℕ) → reaching xs best k ≡ reaching xs low k
-    → low ≤ next → next ≤ best → (getD xs k 0 < low) ⊎ (next ≤ getD xs k 0)
-    → reaching xs next (k + 1) ≡ reaching xs low (k + 1)
-drawn-up-on xs low best next k e l h own =
-    let so-far : reaching xs next k ≡ reaching xs low k = omega (arith, falls xs low next k l, falls xs next best k h) in
-    reached-alike xs next low k so-far (by-own own)
+-- One state more: the end is drawn in to it, if it stands between.
+pub drawn-up-on : (xs : List ℕ) (low high k best own next : ℕ) → DrawnUp xs low high k best
+    → NotBelow (getD xs k 0) low high own → next ≡ min best own → DrawnUp xs low high (k + 1) next
+drawn-up-on xs low high k best own next so-far place e = record {
+  notBelow = from place;
+  within = omega (arith, so-far .within);
+  same = reached-alike xs next low k still (alike place);
+}
   where
-    by-own : (getD xs k 0 < low) ⊎ (next ≤ getD xs k 0)
-        → ((getD xs k 0 < next) × (getD xs k 0 < low)) ⊎ ((next ≤ getD xs k 0) × (low ≤ getD xs k 0))
-    by-own (inl p) = inl (omega arith, p)
-    by-own (inr p) = inr (p, omega arith)
+    from : NotBelow (getD xs k 0) low high own → low ≤ next
+    from (inl w) = omega (arith, so-far .notBelow)
+    from (inr w) = omega (arith, so-far .notBelow, so-far .within)
 
--- The upper end in the same way.
-pub drawn-down-on : (xs : List ℕ) (high best next k : ℕ) → reaching xs (best + 1) k ≡ reaching xs (high + 1) k
-    → best ≤ next → next ≤ high → (high < getD xs k 0) ⊎ (getD xs k 0 ≤ next)
-    → reaching xs (next + 1) (k + 1) ≡ reaching xs (high + 1) (k + 1)
-drawn-down-on xs high best next k e l h own =
-    let so-far : reaching xs (next + 1) k ≡ reaching xs (high + 1) k
-    = omega (arith, falls xs (best + 1) (next + 1) k (omega arith), falls xs (next + 1) (high + 1) k (omega arith)) in
-    reached-alike xs (next + 1) (high + 1) k so-far (by-own own)
+    still : reaching xs next k ≡ reaching xs low k
+    still = omega (arith, so-far .same, falls xs low next k (from place), falls xs next best k (omega arith))
+
+    alike : NotBelow (getD xs k 0) low high own → Alike (getD xs k 0) next low
+    alike (inl w) = inr (omega arith, w .0)
+    alike (inr w) = inl (omega (arith, from place), w .0)
+
+pub drawn-down-on : (xs : List ℕ) (low high k best own next : ℕ) → DrawnDown xs low high k best
+    → NotAbove (getD xs k 0) high low own → next ≡ max best own → DrawnDown xs low high (k + 1) next
+drawn-down-on xs low high k best own next so-far place e = record {
+  within = omega (arith, so-far .within);
+  notAbove = to place;
+  same = reached-alike xs (next + 1) (high + 1) k still (alike place);
+}
   where
-    by-own : (high < getD xs k 0) ⊎ (getD xs k 0 ≤ next)
-        → ((getD xs k 0 < next + 1) × (getD xs k 0 < high + 1)) ⊎ ((next + 1 ≤ getD xs k 0) × (high + 1 ≤ getD xs k 0))
-    by-own (inl p) = inr (omega arith, omega arith)
-    by-own (inr p) = inl (omega arith, omega arith)
+    to : NotAbove (getD xs k 0) high low own → next ≤ high
+    to (inl w) = omega (arith, so-far .notAbove)
+    to (inr w) = omega (arith, so-far .notAbove, so-far .within)
+
+    still : reaching xs (next + 1) k ≡ reaching xs (high + 1) k
+    still =
+        omega (
+          arith,
+          so-far .same,
+          falls xs (best + 1) (next + 1) k (omega arith),
+          falls xs (next + 1) (high + 1) k (omega (arith, to place)),
+        )
+
+    alike : NotAbove (getD xs k 0) high low own → Alike (getD xs k 0) (next + 1) (high + 1)
+    alike (inl w) = inl (omega arith, omega arith)
+    alike (inr w) = inr (omega (arith, to place), omega arith)
 
 -- ---- ranges that hold the bar
 
 -- The bar lies in the range: above it there are no more states than seats left, from its lower end on at least as many.
 pub record HoldsBar (xs : List ℕ) (left : ℕ) (r : Range) : Type 0 where
   pub ordered : r .low ≤ r .high
-  pub fits : r .high + 1 < 2 ^ 64
   pub counted : r .above ≡ reaching xs (r .high + 1) (length xs)
   pub few : r .above ≤ left
   pub enough : left ≤ reaching xs (r .low) (length xs)
 
+-- Less lies between the ends of a range than between those of another.
 abbrev pub Narrower : (r old : Range) → Type 0
 Narrower r old = r .high - r .low < old .high - old .low
 
@@ -88,15 +112,14 @@ pub record Searchable (xs : List ℕ) (left least greatest : ℕ) : Type 0 where
   pub some : 0 < length xs
   pub few : left ≤ length xs
   pub ordered : least ≤ greatest
-  pub fits : greatest + 1 < 2 ^ 64
   pub noneAbove : reaching xs (greatest + 1) (length xs) ≡ 0
   pub allReach : reaching xs least (length xs) ≡ length xs
 
+-- Then all that lies between these holds the bar.
 pub whole-holds-bar : (xs : List ℕ) (left least greatest from : ℕ) → Searchable xs left least greatest
     → HoldsBar xs left (record { low = least; high = greatest; above = 0; from = from })
 whole-holds-bar xs left least greatest from ok = record {
   ordered = ok .ordered;
-  fits = ok .fits;
   counted = sym (ok .noneAbove);
   few = omega arith;
   enough = omega (arith, ok .few, ok .allReach);
@@ -114,12 +137,11 @@ one-number-is-bar xs left r h one =
     record { bar = record { above = omega (arith, h .few); enough = h .enough }; counted = above }
 
 -- A number with just as many states above it as seats are left is such a range.
-pub middle-holds-bar : (xs : List ℕ) (left middle above from : ℕ) → middle + 1 < 2 ^ 64
+pub middle-holds-bar : (xs : List ℕ) (left middle above from : ℕ)
     → above ≡ reaching xs (middle + 1) (length xs) → above ≡ left
     → HoldsBar xs left (record { low = middle; high = middle; above = above; from = from })
-middle-holds-bar xs left middle above from fits e just = record {
+middle-holds-bar xs left middle above from e just = record {
   ordered = omega arith;
-  fits = fits;
   counted = e;
   few = omega arith;
   enough = just-as-many xs left middle (sym e ∙ just) .enough;
@@ -130,4 +152,5 @@ middle-holds-bar xs left middle above from fits e just = record {
 -- Of a width shared among the states, the shares of some of them are no more than the width.
 pub shares-within : (width states some : ℕ) → some ≤ states → width / states * some ≤ width
 shares-within width states some h =
-    le-trans (mul-le-mul {n₁ = width / states} {m₁ = some} {n₂ = width / states} {m₂ = states} (omega arith) h) (div-mul-le-self width states)
+    let share = width / states in
+    le-trans (mul-le-mul {n₁ = share} {m₁ = some} {n₂ = share} {m₂ = states} (omega arith) h) (div-mul-le-self width states)

@@ -3,9 +3,8 @@
 -- Assumes nothing.
 use mathlib.Core.Path.{_≡_, refl, sym, ap, _∙_}
 use mathlib.Core.Bool.{Bool, true, false, cond}
-use mathlib.Core.Logic.{_⊎_, inl, inr}
 use mathlib.Core.List.{List}
-use Prim.Native.Nat.{ℕ, _+_, _-_, _^_, _≤_, _<_}
+use Prim.Native.Nat.{ℕ, _+_, _-_, _^_, _≤_, _<_, min, max}
 use native.Mathlib.Omega.{arith}
 use lib.Dec.{ltb, eqb}
 use lib.ListN.{length, getD}
@@ -14,13 +13,10 @@ use Rattle.apportionment.specs.Lists.{sum, listOf}
 use Rattle.apportionment.specs.Remainders.{wholePart, seatsLeft, remainderSeatsAt, remainderSeats}
 use Rattle.problem.specs.inner.Passed.{Passed}
 use Rattle.remainders.specs.Building.{length-of, getD-of, is-list-of, list-of-agrees, sum-of-one-more, FilledTo}
-use Rattle.remainders.specs.WholeParts.{wholeParts, sum-above-zero, whole-parts-within, left-within-states}
+use Rattle.remainders.specs.WholeParts.{wholeParts, whole-parts-within, left-within-states}
 use Rattle.remainders.specs.Standing.{
   standingAt,
-  topStanding,
   standingsOf,
-  standing-below-top,
-  top-fits,
   extraIn,
   rank-is,
   withExtraAt,
@@ -53,22 +49,20 @@ spans-none f least greatest = record {
 }
 
 -- One number more, and ends drawn out to leave it within.
-pub spans-on : (f : ℕ → ℕ) (k least greatest low high own top : ℕ) → Spans f k least greatest → own ≡ f k → f k ≤ top
-    → low ≤ least → (own < 0) ⊎ (low ≤ own) → greatest ≤ high → (top < own) ⊎ (own ≤ high) → Spans f (k + 1) low high
-spans-on f k least greatest low high own top so-far e below l to-low h to-high = record {
-  low = λ (i : ℕ) (m : i < k + 1). by-low i m (eqb i k) refl to-low;
-  high = λ (i : ℕ) (m : i < k + 1). by-high i m (eqb i k) refl to-high;
+pub spans-on : (f : ℕ → ℕ) (k least greatest low high own : ℕ) → Spans f k least greatest → own ≡ f k
+    → low ≡ min least own → high ≡ max greatest own → Spans f (k + 1) low high
+spans-on f k least greatest low high own so-far e l h = record {
+  low = λ (i : ℕ) (m : i < k + 1). by-low i m (eqb i k) refl;
+  high = λ (i : ℕ) (m : i < k + 1). by-high i m (eqb i k) refl;
 }
   where
-    by-low : (i : ℕ) → i < k + 1 → (t : Bool) → eqb i k ≡ t → (own < 0) ⊎ (low ≤ own) → low ≤ f i
-    by-low i m true d (inl w) = absurd (omega arith)
-    by-low i m true d (inr w) = rw (eqb-true i k d) (omega (arith, e))
-    by-low i m false d w = omega (arith, so-far .low i (omega (arith, eqb-false i k d)))
+    by-low : (i : ℕ) → i < k + 1 → (t : Bool) → eqb i k ≡ t → low ≤ f i
+    by-low i m true d = rw (eqb-true i k d) (omega (arith, e, l))
+    by-low i m false d = omega (arith, l, so-far .low i (omega (arith, eqb-false i k d)))
 
-    by-high : (i : ℕ) → i < k + 1 → (t : Bool) → eqb i k ≡ t → (top < own) ⊎ (own ≤ high) → f i ≤ high
-    by-high i m true d (inl w) = absurd (omega (arith, e))
-    by-high i m true d (inr w) = rw (eqb-true i k d) (omega (arith, e))
-    by-high i m false d w = omega (arith, so-far .high i (omega (arith, eqb-false i k d)))
+    by-high : (i : ℕ) → i < k + 1 → (t : Bool) → eqb i k ≡ t → f i ≤ high
+    by-high i m true d = rw (eqb-true i k d) (omega (arith, e, h))
+    by-high i m false d = omega (arith, h, so-far .high i (omega (arith, eqb-false i k d)))
 
 -- The lists after filling, and what it hands back.
 pub record Filled (ps : List ℕ) (H : ℕ) (standings seats : List ℕ) (r : Parts) : Type 0 where
@@ -76,7 +70,6 @@ pub record Filled (ps : List ℕ) (H : ℕ) (standings seats : List ℕ) (r : Pa
   pub seatsAre : seats ≡ wholeParts ps H
   pub givenIs : r .given ≡ sum (wholeParts ps H)
   pub spans : Spans (standingAt ps H) (length ps) (r .least) (r .greatest)
-  pub belowTop : r .greatest ≤ topStanding (sum ps)
 
 -- Standings and seats of as many states, with room for one more seat each.
 pub record HasRoom (xs seats : List ℕ) : Type 0 where
@@ -105,9 +98,8 @@ is-searchable ps H xs seats r ok filled = record {
   some = omega (arith, long, ok .someState);
   few = omega (arith, long, filled .givenIs, left-within-states ps H ok);
   ordered = omega (arith, filled .spans .low 0 (ok .someState), filled .spans .high 0 (ok .someState));
-  fits = omega (arith, filled .belowTop, top-fits (sum ps) (ok .sumWithin));
-  noneAbove = none-above xs (r .greatest) (λ (i : ℕ) (h : i < length xs). rw (stands i h) (filled .spans .high i (omega (arith, long)))) (length xs) (omega arith);
-  allReach = all-reach xs (r .least) (λ (i : ℕ) (h : i < length xs). rw (stands i h) (filled .spans .low i (omega (arith, long)))) (length xs) (omega arith);
+  noneAbove = none-above xs (r .greatest) above (length xs) (omega arith);
+  allReach = all-reach xs (r .least) below (length xs) (omega arith);
 }
   where
     long : length xs ≡ length ps
@@ -115,6 +107,12 @@ is-searchable ps H xs seats r ok filled = record {
 
     stands : (i : ℕ) → i < length xs → getD xs i 0 ≡ standingAt ps H i
     stands i h = ap (λ (l : List ℕ). getD l i 0) (filled .standingsAre) ∙ getD-of (standingAt ps H) (length ps) i (omega (arith, long))
+
+    below : (i : ℕ) → i < length xs → r .least ≤ getD xs i 0
+    below i h = rw (stands i h) (filled .spans .low i (omega (arith, long)))
+
+    above : (i : ℕ) → i < length xs → getD xs i 0 ≤ r .greatest
+    above i h = rw (stands i h) (filled .spans .high i (omega (arith, long)))
 
 -- ---- serving, and the definition
 
@@ -176,7 +174,8 @@ served-in-parts xs bar spare before place after room s =
     (λ (i : ℕ) (h : i < length before).
     getD-of (servedFromAt xs bar place after) (length after) i (omega (arith, s .done .long)) ∙ by-place i h (ltb i place) refl)
   where
-    by-place : (i : ℕ) → i < length before → (t : Bool) → ltb i place ≡ t → servedFromAt xs bar place after i ≡ servedAt xs bar spare before i
+    by-place : (i : ℕ) → i < length before → (t : Bool) → ltb i place ≡ t
+        → servedFromAt xs bar place after i ≡ servedAt xs bar spare before i
     by-place i h true e = rw e (omega (arith, s .done .right i (ltb-true i place e)))
     by-place i h false e =
         let later : place ≤ i = ltb-false i place e in

@@ -4,13 +4,12 @@
 use mathlib.Core.Path.{_≡_, refl, sym, _∙_}
 use mathlib.Core.Bool.{Bool, true, false, cond}
 use mathlib.Core.List.{List}
-use Prim.Native.Nat.{ℕ, _+_, _*_, _%_, _^_, _≤_, _<_}
+use Prim.Native.Nat.{ℕ, _+_, _*_, _%_, _≤_, _<_}
 use native.Mathlib.Omega.{arith}
-use native.Mathlib.Nat.{mod-lt, zero-add}
+use native.Mathlib.Nat.{zero-add}
 use lib.Dec.{ltb, leb}
 use lib.ListN.{length, getD}
 use borrow.Author.Tests.{ltb-true, ltb-false, lt-ltb, le-ltb, le-leb, lt-leb}
-use Rattle.apportionment.specs.Limits.{sumLimit}
 use Rattle.apportionment.specs.Lists.{sum, countBelow, listOf}
 use Rattle.apportionment.specs.Remainders.{remainder, standsBefore, rank}
 use Rattle.remainders.specs.Building.{length-of, getD-of, count-one-more, count-agrees, count-splits}
@@ -18,10 +17,6 @@ use Rattle.remainders.specs.Building.{length-of, getD-of, count-one-more
 -- The standing of a state of population p: its remainder.
 unfoldable pub standingOf : (p P H : ℕ) → ℕ
 standingOf p P H = p * H % P
-
--- No state stands above this.
-abbrev pub topStanding : ℕ → ℕ
-topStanding P = P
 
 -- The standings of all states.
 abbrev pub standingAt : (ps : List ℕ) (H i : ℕ) → ℕ
@@ -52,14 +47,6 @@ abbrev pub withExtra : (xs : List ℕ) (left : ℕ) (seats : List ℕ) → List 
 withExtra xs left seats = listOf (withExtraAt xs left seats) (length seats)
 
 -- ---- the method's order is that of standings
-
--- No standing is above the top one, which leaves room for one more in 64 bits.
-pub standing-below-top : (p P H : ℕ) → 0 < P → standingOf p P H ≤ topStanding P
-unfolding standingOf
-standing-below-top p P H h = omega (arith, mod-lt (p * H) h)
-
-pub top-fits : (P : ℕ) → P ≤ sumLimit → topStanding P + 1 < 2 ^ 64
-top-fits P h = omega arith
 
 -- A state stands before another exactly if its standing says so.
 pub standing-decides : (ps : List ℕ) (H i j : ℕ) → i < length ps → j < length ps

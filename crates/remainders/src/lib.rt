@@ -1,17 +1,17 @@
 // Largest remainders: each state has its whole part, and those who stand highest for them the seats that are left.
 use apportionment::STATE_LIMIT;
 ghost use mathlib.Core.Path.{_≡_};
-ghost use mathlib.Core.Logic.{_⊎_};
-ghost use Prim.Native.Nat.{_+_, _*_, _/_, _^_, _≤_, _<_};
+ghost use Prim.Native.Nat.{_*_, _/_, _^_, _≤_, _<_, min, max};
 ghost use lib.ListN.{length};
 ghost use Rattle.apportionment.specs.Remainders.{remainderSeats};
 ghost use Rattle.remainders.specs.WholeParts.{Given};
-ghost use Rattle.remainders.specs.Standing.{standingOf, topStanding, withExtra};
+ghost use Rattle.remainders.specs.Standing.{standingOf, withExtra};
 ghost use Rattle.remainders.specs.Bar.{reaching, extraBy, spareAfter};
-ghost use Rattle.remainders.specs.Search.{DrawnUp, DrawnDown, HoldsBar, Narrower, Searchable, BarFound};
+ghost use Rattle.remainders.specs.Search.{NotBelow, NotAbove, DrawnUp, DrawnDown, HoldsBar, Narrower, Searchable, BarFound};
 ghost use Rattle.remainders.specs.Seats.{Filled, HasRoom, RoomFrom, ServedTo, servedFrom, served};
 
-// The number by which a state of this population and whole part stands for a seat that is left, the larger first: its remainder.
+// The number by which a state of this population and whole part stands for a seat that is left, the larger first: its remainder. This
+// function alone says what a standing is; the search for the bar compares standings and knows nothing else of them.
 fn standing(population: u64, whole: u64, total: u64, house: u64) -> u64
     requires { ⌜ (population * house < 2 ^ 64) × (whole ≡ population * house / total) ⌝ }
     ensures { λ r. ⌜ r ≡ standingOf population total house ⌝ }
@@ -19,40 +19,26 @@ fn standing(population: u64, whole: u64, total: u64, house: u64) -> u64
     population * house - whole * total
 }
 
-// No state stands above this: a remainder is less than what it is a remainder by, the total. This function and `standing` alone say what a
-// standing is; the search for the bar compares standings and knows nothing else of them.
-fn top_standing(total: u64) -> u64
-    ensures { λ r. ⌜ r ≡ topStanding total ⌝ }
+// The largest number there is: no state stands above it.
+const LARGEST: u64 = 18_446_744_073_709_551_615;
+
+// The lesser and the greater of two.
+fn lesser(a: u64, b: u64) -> u64
+    ensures { λ r. ⌜ r ≡ min a b ⌝ }
 {
-    total
+    if a < b {
+        return a;
+    }
+    b
 }
 
-// The lesser of `best` and `own`, where `own` is `low` or more.
-fn least_from(own: u64, low: u64, best: u64) -> u64
-    requires { ⌜ low ≤ best ⌝ }
-    ensures { λ r. ⌜ (low ≤ r) × (r ≤ best) × ((own < low) ⊎ (r ≤ own)) ⌝ }
+fn greater(a: u64, b: u64) -> u64
+    ensures { λ r. ⌜ r ≡ max a b ⌝ }
 {
-    if best < own {
-        return best;
+    if a < b {
+        return b;
     }
-    if own < low {
-        return best;
-    }
-    own
-}
-
-// The greater of `best` and `own`, where `own` is `high` or less.
-fn greatest_to(own: u64, high: u64, best: u64) -> u64
-    requires { ⌜ best ≤ high ⌝ }
-    ensures { λ r. ⌜ (best ≤ r) × (r ≤ high) × ((high < own) ⊎ (own ≤ r)) ⌝ }
-{
-    if own < best {
-        return best;
-    }
-    if high < own {
-        return best;
-    }
-    own
+    a
 }
 
 // What filling hands back: the seats given as whole parts, and the least and the greatest standing.
@@ -74,9 +60,8 @@ fn fill_parts(
     requires { ⌜ length (now standings) ≡ length (now populations) ⌝ }
     ensures { λ r. ⌜ Filled (now (populations .entry)) house (now (standings .exit)) (now (seats .exit)) r ⌝ }
 {
-    let top = top_standing(total);
     let mut given: u64 = 0;
-    let mut least = top;
+    let mut least = LARGEST;
     let mut greatest: u64 = 0;
     let mut i = 0;
     while i < populations.len() {
@@ -86,8 +71,8 @@ fn fill_parts(
         seats[i] = whole;
         standings[i] = own;
         given += whole;
-        least = least_from(own, 0, least);
-        greatest = greatest_to(own, top, greatest);
+        least = lesser(least, own);
+        greatest = greater(greatest, own);
         i += 1;
     }
     Parts {
@@ -112,15 +97,35 @@ fn reaching(standings: &[u64], least: u64) -> u64
     count
 }
 
+// `own` where it is `low` or more, and `none` otherwise: apart from `lesser`, so that this is worked out for several states at once.
+fn not_below(own: u64, low: u64, none: u64) -> u64
+    ensures { λ r. ⌜ NotBelow own low none r ⌝ }
+{
+    if own < low {
+        return none;
+    }
+    own
+}
+
+// `own` where it is `high` or less, and `none` otherwise.
+fn not_above(own: u64, high: u64, none: u64) -> u64
+    ensures { λ r. ⌜ NotAbove own high none r ⌝ }
+{
+    if high < own {
+        return none;
+    }
+    own
+}
+
 // The least standing from `low` to `high`, or `high` where there is none: no state stands at `low` or above it and below the answer.
 fn drawn_up(standings: &[u64], low: u64, high: u64) -> u64
     requires { ⌜ low ≤ high ⌝ }
-    ensures { λ r. ⌜ DrawnUp (now (standings .entry)) low high r ⌝ }
+    ensures { λ r. ⌜ DrawnUp (now (standings .entry)) low high (length (now (standings .entry))) r ⌝ }
 {
     let mut best = high;
     let mut j = 0;
     while j < standings.len() {
-        best = least_from(standings[j], low, best);
+        best = lesser(best, not_below(standings[j], low, high));
         j += 1;
     }
     best
@@ -129,12 +134,12 @@ fn drawn_up(standings: &[u64], low: u64, high: u64) -> u64
 // The greatest standing from `low` to `high`, or `low` where there is none: no state stands above the answer and at `high` or below.
 fn drawn_down(standings: &[u64], low: u64, high: u64) -> u64
     requires { ⌜ low ≤ high ⌝ }
-    ensures { λ r. ⌜ DrawnDown (now (standings .entry)) low high r ⌝ }
+    ensures { λ r. ⌜ DrawnDown (now (standings .entry)) low high (length (now (standings .entry))) r ⌝ }
 {
     let mut best = low;
     let mut j = 0;
     while j < standings.len() {
-        best = greatest_to(standings[j], high, best);
+        best = greater(best, not_above(standings[j], high, low));
         j += 1;
     }
     best
@@ -153,7 +158,7 @@ struct Range {
 // apart.
 fn lower_end(standings: &[u64], low: u64, high: u64, loose: bool) -> u64
     requires { ⌜ low ≤ high ⌝ }
-    ensures { λ r. ⌜ DrawnUp (now (standings .entry)) low high r ⌝ }
+    ensures { λ r. ⌜ DrawnUp (now (standings .entry)) low high (length (now (standings .entry))) r ⌝ }
 {
     if loose {
         return drawn_up(standings, low, high);
@@ -164,7 +169,7 @@ fn lower_end(standings: &[u64], low: u64, high: u64, loose: bool) -> u64
 // The upper end, in the same way.
 fn upper_end(standings: &[u64], low: u64, high: u64, loose: bool) -> u64
     requires { ⌜ low ≤ high ⌝ }
-    ensures { λ r. ⌜ DrawnDown (now (standings .entry)) low high r ⌝ }
+    ensures { λ r. ⌜ DrawnDown (now (standings .entry)) low high (length (now (standings .entry))) r ⌝ }
 {
     if loose {
         return drawn_down(standings, low, high);

@@ -1,40 +1,36 @@
 -- `remainders::fill_parts` meets its contract. The loop's invariant: the numbers passed are standings and whole parts, the number given is
 -- the sum of these, and no standing lies outside of the least and the greatest. The measure is what is left of the list.
 -- Assumes nothing.
-use mathlib.Core.Path.{_≡_, refl, sym, ap, _∙_}
-use Prim.Native.Nat.{ℕ, _+_, _-_, _≤_}
+use mathlib.Core.Path.{_≡_, refl, ap, _∙_}
+use Prim.Native.Nat.{ℕ, _+_, _-_}
 use native.Mathlib.Omega.{arith}
 use lib.ListN.{length, getD}
 use borrow.Author.Needs.{needs}
 use Rattle.apportionment.specs.Lists.{sum, listOf}
 use Rattle.apportionment.specs.Remainders.{wholePart}
 use Rattle.remainders.specs.WholeParts.{whole-part-is, product-fits, sum-above-zero, whole-parts-within}
-use Rattle.remainders.specs.Standing.{standingOf, standingAt, standing-below-top}
+use Rattle.remainders.specs.Standing.{standingOf, standingAt}
 use Rattle.remainders.specs.Building.{sum-of-one-more, FilledTo, fill-starts, fill-goes-on, fill-ends}
 use Rattle.remainders.specs.Seats.{Spans, spans-none, spans-on}
 use Rattle.remainders.proofs.fill_parts.Statement.{statement}
 use Rattle.remainders.proofs.fill_parts.Tie as tie
 
 abbrev Inv-loop : tie.InvT-loop
-Inv-loop populations total house standings₀ seats₀ top given₀ least₀ greatest₀ i₀ standings seats given least greatest i =
+Inv-loop populations total house standings₀ seats₀ given₀ least₀ greatest₀ i₀ standings seats given least greatest i =
     FilledTo (standingAt populations house) (length populations) i standings
     × FilledTo (wholePart populations house) (length populations) i seats
     × (given ≡ sum (listOf (wholePart populations house) i))
     × Spans (standingAt populations house) i least greatest
-    × (greatest ≤ top)
 
 abbrev μ-loop : tie.MeasureT-loop
-μ-loop populations total house standings₀ seats₀ top given₀ least₀ greatest₀ i₀ standings seats given least greatest i =
+μ-loop populations total house standings₀ seats₀ given₀ least₀ greatest₀ i₀ standings seats given least greatest i =
     length populations - i
-
-top-standing-requires : tie.Need-top-standing-requires Inv-loop μ-loop
-top-standing-requires c κs = search needs
 
 loop-holds : tie.Need-loop-holds Inv-loop μ-loop
 unfolding listOf sum
 loop-holds c =
-    let start = c .before .before .before .before in
-    (fill-starts _ _ _ (start .pre .1), fill-starts _ _ _ (start .pre .0 .roomFits), refl, spans-none _ _ _, omega arith)
+    let start = c .before .before .before in
+    (fill-starts _ _ _ (start .pre .1), fill-starts _ _ _ (start .pre .0 .roomFits), refl, spans-none _ _ _)
 
 mul-population : tie.Need-mul-population Inv-loop μ-loop
 mul-population c = search needs
@@ -45,21 +41,21 @@ shared-slice-read-population c = search needs
 mul-whole : tie.Need-mul-whole Inv-loop μ-loop
 mul-whole c =
     let at-loop = c .before .before in
-    let start = at-loop .before .before .before .before .before in
+    let start = at-loop .before .before .before .before in
     let i = at-loop .loop .i in
     record { fits = product-fits (start .args .populations .now) (start .args .house) i (start .pre .0 .passed) }
 
 div-whole : tie.Need-div-whole Inv-loop μ-loop
 div-whole c =
     let at-loop = c .before .before in
-    let start = at-loop .before .before .before .before .before in
+    let start = at-loop .before .before .before .before in
     let some = sum-above-zero (start .args .populations .now) (start .args .house) (start .pre .0 .passed) in
     omega (arith, some, start .pre .0 .totalIs)
 
 standing-requires : tie.Need-standing-requires Inv-loop μ-loop
 standing-requires c κs =
     let at-loop = c .before .before in
-    let start = at-loop .before .before .before .before .before in
+    let start = at-loop .before .before .before .before in
     (product-fits (start .args .populations .now) (start .args .house) (at-loop .loop .i) (start .pre .0 .passed), refl)
 
 mul-seats : tie.Need-mul-seats Inv-loop μ-loop
@@ -77,7 +73,7 @@ slice-write-standings c = search needs
 add-given : tie.Need-add-given Inv-loop μ-loop
 add-given c =
     let at-loop = c .before .before .before in
-    let start = at-loop .before .before .before .before .before in
+    let start = at-loop .before .before .before .before in
     let ps = start .args .populations .now in
     let H = start .args .house in
     let i = at-loop .loop .i in
@@ -90,11 +86,11 @@ add-given c =
       start .pre .0 .passed .houseWithin,
     )
 
-least-from-requires : tie.Need-least-from-requires Inv-loop μ-loop
-least-from-requires c κs = search needs
+lesser-requires : tie.Need-lesser-requires Inv-loop μ-loop
+lesser-requires c κs = search needs
 
-greatest-to-requires : tie.Need-greatest-to-requires Inv-loop μ-loop
-greatest-to-requires c κs = search needs
+greater-requires : tie.Need-greater-requires Inv-loop μ-loop
+greater-requires c κs = search needs
 
 add-i : tie.Need-add-i Inv-loop μ-loop
 add-i c = search needs
@@ -107,8 +103,7 @@ loop-again c =
     let stood = c .before .before in
     let tested = stood .before .before in
     let at-loop = tested .before in
-    let top = at-loop .before in
-    let start = top .before .before .before .before in
+    let start = at-loop .before .before .before .before in
     let ps = start .args .populations .now in
     let H = start .args .house in
     let i = at-loop .loop .i in
@@ -117,15 +112,12 @@ loop-again c =
     let same = start .pre .0 .totalIs in
     let whole = whole-part-is ps (start .args .total) H i same in
     let own = stood .standing .ensures ∙ ap (λ (P : ℕ). standingOf p P H) same in
-    let least = c .before .least-from .ensures in
-    let greatest = c .greatest-to .ensures in
-    let below : standingAt ps H i ≤ top .top-standing .result
-    = omega (arith, standing-below-top p (sum ps) H (sum-above-zero ps H (start .pre .0 .passed)), top .top-standing .ensures, same) in (
+    let least = c .before .lesser .ensures in
+    let greatest = c .greater .ensures in (
       fill-goes-on _ _ _ _ _ (tested .loop-test .taken) own (so-far .0),
       fill-goes-on _ _ _ _ _ (tested .loop-test .taken) whole (so-far .1),
       omega (arith, so-far .2, sum-of-one-more (wholePart ps H) i, whole),
-      spans-on _ _ _ _ _ _ _ _ (so-far .3) own below (least .1) (least .2) (greatest .0) (greatest .2),
-      greatest .1,
+      spans-on _ _ _ _ _ _ _ (so-far .3) own least greatest,
     )
 
 same-length : tie.Need-same-length Inv-loop μ-loop
@@ -137,8 +129,7 @@ same-length-2 c = search needs
 returns : tie.Need-returns Inv-loop μ-loop
 returns c =
     let at-loop = c .before in
-    let top = at-loop .before in
-    let start = top .before .before .before .before in
+    let start = at-loop .before .before .before .before in
     let ps = start .args .populations .now in
     let H = start .args .house in
     let so-far = at-loop .loop .inv in
@@ -149,7 +140,6 @@ returns c =
       seatsAre = fill-ends _ _ _ _ (c .loop-test .left) (so-far .1);
       givenIs = so-far .2 ∙ ap sumTo all;
       spans = rw all at (so-far .3);
-      belowTop = omega (arith, so-far .4, top .top-standing .ensures, start .pre .0 .totalIs);
     }
 
 pub fill-parts-spec : {M : Type 1} → statement M
@@ -158,7 +148,6 @@ fill-parts-spec =
     (tie.spec
     Inv-loop
     μ-loop
-    top-standing-requires
     loop-holds
     mul-population
     shared-slice-read-population
@@ -170,8 +159,8 @@ fill-parts-spec =
     mul-standings
     slice-write-standings
     add-given
-    least-from-requires
-    greatest-to-requires
+    lesser-requires
+    greater-requires
     add-i
     loop-less
     loop-again

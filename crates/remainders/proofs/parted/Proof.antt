@@ -1,6 +1,5 @@
 -- `remainders::parted` meets its contract: the states above the middle number say which part holds the bar.
 -- Assumes nothing.
-use Prim.Native.Nat.{_+_, _^_, _<_}
 use native.Mathlib.Omega.{arith}
 use borrow.Author.Needs.{needs}
 use Rattle.remainders.specs.Search.{middle-holds-bar}
@@ -17,9 +16,8 @@ returns : tie.Need-returns
 returns c =
     let counted = c .before in
     let start = counted .before .before in
-    let middle = start .args .middle in
-    let small : middle + 1 < 2 ^ 64 = omega (arith, start .pre .0 .fits, start .pre .2) in (
-      middle-holds-bar (start .args .standings .now) (start .args .left) middle _ _ small (counted .reaching .ensures) (c .if1 .taken),
+    let middle = start .args .middle in (
+      middle-holds-bar (start .args .standings .now) (start .args .left) middle _ _ (counted .reaching .ensures) (c .if1 .taken),
       omega (arith, start .pre .1, start .pre .2),
     )
 

@@ -1,7 +1,7 @@
 -- `remainders::serve_above` meets its contract. The loop's invariant: the states passed are served, and those to come have the seats they
 -- had. The measure is what is left of the list.
 -- Assumes nothing.
-use mathlib.Core.Path.{_≡_, refl, sym, _∙_}
+use mathlib.Core.Path.{_≡_, refl}
 use Prim.Native.Nat.{ℕ, _-_, _≤_}
 use native.Mathlib.Omega.{arith}
 use lib.ListN.{length, getD}
