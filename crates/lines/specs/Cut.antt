@@ -1,61 +1,18 @@
--- Lines that are cut once: the tests of Lines.antt over a line's parts, and what reading a state's line hands on. Each law says that
--- a test over the parts is the grammar's; a reader who only wants the grammar need not read this file.
+-- What reading a state's line hands on, so that no line is cut twice. A reader who only wants the grammar need not read this file.
 -- Assumes nothing.
 use mathlib.Core.Path.{_≡_, refl, sym}
 use mathlib.Core.Bool.{Bool, true, false, cond}
 use mathlib.Core.List.{List}
-use Prim.Native.Nat.{ℕ, _+_}
+use Prim.Native.Nat.{ℕ}
 use borrow.Author.Tests.{eqb-true, eq-eqb, ne-eqb}
-use lib.Dec.{leb, eqb}
+use lib.Dec.{eqb}
 use lib.ListN.{length}
-use Rattle.apportionment.specs.Limits.{sumLimit}
-use Rattle.apportionment.specs.Refusals.{accepted, lineIllFormed, numberOutOfLimits, nameUsed, runningSumTooLarge}
-use Rattle.apportionment.specs.Lists.{sameList}
-use Rattle.apportionment.specs.Text.{bytesOf}
-use Rattle.apportionment.specs.Checks.{within}
+use Rattle.apportionment.specs.Refusals.{accepted, lineIllFormed}
 use Rattle.fields.specs.Parts.{placeOf}
-use Rattle.fields.specs.Grammar.{lineFeed, ended, lineOf, fieldOf, isNumber, isMethodField}
-use Rattle.lines.specs.Lines.{methodField, houseField, countField, isHead, nameAt, numberField, numberAt, isPair, isStateLine, usedIn, stateRefusal}
+use Rattle.fields.specs.Grammar.{lineFeed}
+use Rattle.lines.specs.Lines.{nameAt, numberAt, isStateLine, usedIn, entryRefusal, stateRefusal}
 use Rattle.lines.specs.Fingerprints.{fingerprintOf}
 use Rattle.lines.specs.declared.pairs.StateLine.{StateLine}
-
--- ---- line 1
-
--- A head of these parts is well-formed.
-unfoldable pub headFormed : (isEnded : Bool) (word method house count : List ℕ) → Bool
-headFormed isEnded word method house count =
-    cond isEnded
-    (cond (sameList word (bytesOf "register"))
-    (cond (isMethodField method)
-    (cond (isNumber house) (isNumber count) false)
-    false)
-    false)
-    false
-
-pub head-formed : (s : List ℕ)
-    → headFormed (ended s) (fieldOf (lineOf s)) (methodField s) (houseField s) (countField s) ≡ isHead s
-unfolding headFormed isHead
-head-formed s = refl
-
--- ---- a line of two fields
-
--- A line of two fields with these parts is well-formed.
-unfoldable pub pairFormed : (isEnded passes : Bool) (digits : List ℕ) → Bool
-pairFormed isEnded passes digits = cond isEnded (cond passes (isNumber digits) false) false
-
-pub pair-formed : (passes : Bool) (s : List ℕ) → pairFormed (ended s) passes (numberField s) ≡ isPair passes s
-unfolding pairFormed isPair
-pair-formed passes s = refl
-
--- The refusal of a well-formed state's line by its population and whether its name was used before: 3, 5, 6 in this order, or 0.
-unfoldable pub entryRefusal : (used : Bool) (sum p : ℕ) → ℕ
-entryRefusal used sum p =
-    cond (within sumLimit p)
-    (cond used nameUsed
-    (cond (leb (sum + p) sumLimit) accepted runningSumTooLarge))
-    numberOutOfLimits
-
--- ---- what reading a state's line hands on
 
 -- A line that is refused hands on its refusal alone.
 unfoldable pub lineRefused : (refusal : ℕ) → StateLine
@@ -85,12 +42,12 @@ line-ill-formed first k sum s ill = rw ill
 pub line-refused : (first : List ℕ) (k sum : ℕ) (s : List ℕ) → isStateLine s ≡ true
     → (entryRefusal (usedIn k first (nameAt s)) sum (numberAt s) ≡ accepted → ⊥)
     → stateLineOf first k sum s ≡ lineRefused (entryRefusal (usedIn k first (nameAt s)) sum (numberAt s))
-unfolding stateLineOf stateRefusal entryRefusal
+unfolding stateLineOf stateRefusal
 line-refused first k sum s formed bad = rw (formed, ne-eqb _ accepted bad)
 
 pub line-accepted : (first : List ℕ) (k sum : ℕ) (s : List ℕ) → isStateLine s ≡ true
     → entryRefusal (usedIn k first (nameAt s)) sum (numberAt s) ≡ accepted → stateLineOf first k sum s ≡ lineRead s
-unfolding stateLineOf stateRefusal entryRefusal
+unfolding stateLineOf stateRefusal
 line-accepted first k sum s formed good = rw (formed, eq-eqb _ accepted good)
 
 -- For a caller: its refusal is the line's, and where that is none, what it hands on is as read.

@@ -33,19 +33,22 @@ houseField s = fieldOf (fieldsAfter (fieldsAfter (lineOf s)))
 unfoldable pub countField : List ℕ → List ℕ
 countField s = fieldsAfter (fieldsAfter (fieldsAfter (lineOf s)))
 
--- The head is well-formed.
-unfoldable pub isHead : List ℕ → Bool
-isHead s =
-    cond (ended s)
-    (cond (sameList (fieldOf (lineOf s)) (bytesOf "register"))
-    (cond (isMethodField (methodField s))
-    (cond (isNumber (houseField s)) (isNumber (countField s)) false)
+-- A head of these fields, ended or not, is well-formed.
+unfoldable pub headFormed : (isEnded : Bool) (word method house count : List ℕ) → Bool
+headFormed isEnded word method house count =
+    cond isEnded
+    (cond (sameList word (bytesOf "register"))
+    (cond (isMethodField method)
+    (cond (isNumber house) (isNumber count) false)
     false)
     false)
     false
 
+unfoldable pub isHead : List ℕ → Bool
+isHead s = headFormed (ended s) (fieldOf (lineOf s)) (methodField s) (houseField s) (countField s)
+
 pub head-numbers : (s : List ℕ) → isHead s ≡ true → (isNumber (houseField s) ≡ true) × (isNumber (countField s) ≡ true)
-unfolding isHead
+unfolding isHead headFormed
 head-numbers s head =
     let ending = both (ended s) _ head .1 in
     let word = both (sameList (fieldOf (lineOf s)) (bytesOf "register")) _ ending .1 in
@@ -110,11 +113,14 @@ unfoldable pub numberAt : List ℕ → ℕ
 numberAt s = valueOf (numberField s)
 
 -- The line is ended, its first field passes its own test, and a number follows.
+unfoldable pub pairFormed : (isEnded passes : Bool) (digits : List ℕ) → Bool
+pairFormed isEnded passes digits = cond isEnded (cond passes (isNumber digits) false) false
+
 unfoldable pub isPair : (passes : Bool) → List ℕ → Bool
-isPair passes s = cond (ended s) (cond passes (isNumber (numberField s)) false) false
+isPair passes s = pairFormed (ended s) passes (numberField s)
 
 pub pair-parts : (passes : Bool) (s : List ℕ) → isPair passes s ≡ true → (passes ≡ true) × (isNumber (numberField s) ≡ true)
-unfolding isPair
+unfolding isPair pairFormed
 pair-parts passes s pair = both passes _ (both (ended s) _ pair .1)
 
 -- The name stands on one of the k lines from here on.
@@ -138,15 +144,18 @@ pub closing-number : (s : List ℕ) → isClosingLine s ≡ true → isNumber (n
 unfolding isClosingLine
 closing-number s line = pair-parts (sameList (nameAt s) (bytesOf "total")) s line .1
 
--- The refusal of a state's line after k others, which start at `first` and sum to `sum`: 2, 3, 5, 6 in this order, or 0.
+-- The refusal of a well-formed state's line by its population p and whether its name was used before: 3, 5, 6 in this order, or 0.
+unfoldable pub entryRefusal : (used : Bool) (sum p : ℕ) → ℕ
+entryRefusal used sum p =
+    cond (within sumLimit p)
+    (cond used nameUsed
+    (cond (leb (sum + p) sumLimit) accepted runningSumTooLarge))
+    numberOutOfLimits
+
+-- The refusal of a state's line after k others, which start at `first` and sum to `sum`: 2, and then those.
 unfoldable pub stateRefusal : (first : List ℕ) (k sum : ℕ) → List ℕ → ℕ
 stateRefusal first k sum s =
-    cond (isStateLine s)
-    (cond (within sumLimit (numberAt s))
-    (cond (usedIn k first (nameAt s)) nameUsed
-    (cond (leb (sum + numberAt s) sumLimit) accepted runningSumTooLarge))
-    numberOutOfLimits)
-    lineIllFormed
+    cond (isStateLine s) (entryRefusal (usedIn k first (nameAt s)) sum (numberAt s)) lineIllFormed
 
 -- A state's line that is not refused.
 pub record StateSound (first : List ℕ) (k sum : ℕ) (s : List ℕ) : Type 0 where
@@ -157,7 +166,7 @@ pub record StateSound (first : List ℕ) (k sum : ℕ) (s : List ℕ) : Type 0 w
   pub fits : sum + numberAt s ≤ sumLimit
 
 pub state-sound : (first : List ℕ) (k sum : ℕ) (s : List ℕ) → stateRefusal first k sum s ≡ accepted → StateSound first k sum s
-unfolding stateRefusal
+unfolding stateRefusal entryRefusal
 state-sound first k sum s =
     by-tests
     (isStateLine s)

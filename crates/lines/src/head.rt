@@ -7,8 +7,7 @@ use fields::numbers;
 use fields::parts;
 use fields::words;
 ghost use mathlib.Core.Path.{_≡_};
-ghost use Rattle.lines.specs.Lines.{headRefused, headSays, headOf};
-ghost use Rattle.lines.specs.Cut.{headFormed};
+ghost use Rattle.lines.specs.Lines.{headFormed, headRefused, headSays, headOf};
 
 // What line 1 says, or its refusal; 0 is no refusal. Refused, the rest is 0 and the method is leximin.
 pub struct Head {

@@ -11,10 +11,10 @@ ghost use mathlib.Core.Path.{_≡_};
 ghost use Prim.Native.Nat.{_≤_};
 ghost use Rattle.apportionment.specs.Limits.{sumLimit};
 ghost use Rattle.apportionment.specs.Lists.{sameList};
-ghost use Rattle.lines.specs.Lines.{nameAt, usedIn, closingRefusal};
+ghost use Rattle.lines.specs.Lines.{nameAt, pairFormed, usedIn, entryRefusal, closingRefusal};
 ghost use Rattle.lines.specs.Fingerprints.{fingerprintOf};
 ghost use Rattle.lines.specs.Places.{partOf, Printed, NamesKept};
-ghost use Rattle.lines.specs.Cut.{pairFormed, entryRefusal, lineRefused, stateLineOf};
+ghost use Rattle.lines.specs.Cut.{lineRefused, stateLineOf};
 
 // What a state's line says: its refusal, or 0 and the population, the name's fingerprint and length, and the place where the line ends.
 pub struct StateLine {

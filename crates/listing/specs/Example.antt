@@ -1,10 +1,14 @@
 -- Document 01's example, "The listing in full": the definitions give its listing, byte by byte.
 -- Assumes nothing.
-use mathlib.Core.Path.{_≡_, refl}
+use mathlib.Core.Path.{_≡_, refl, ap, _∙_}
+use mathlib.Core.Bool.{cond}
 use mathlib.Core.List.{List, _++_}
 use Prim.Native.Nat.{ℕ}
+use lib.Dec.{eqb}
+use lib.ListN.{length}
+use Rattle.apportionment.specs.Refusals.{accepted}
 use Rattle.apportionment.specs.Text.{bytesOf, decimal, decimalWith}
-use Rattle.apportionment.specs.Lists.{sum, sameList}
+use Rattle.apportionment.specs.Lists.{sum}
 use Rattle.apportionment.specs.Quantities.{
   less,
   atMost,
@@ -36,54 +40,12 @@ use Rattle.apportionment.specs.Leximin.{
 use Rattle.apportionment.specs.Checks.{within, outside, firstRefusal}
 use Rattle.apportionment.specs.Allotment.{statesOutside, houseOutside, hasZero, sumOutside, listMisfits, seatsEveryState, seatsTooFew}
 use Rattle.apportionment.specs.Allotment.{problemChecks, allotRefusal, seatsOf}
-use Rattle.fields.specs.Parts.{placeOf, has, before, after, allBetween}
-use Rattle.fields.specs.Grammar.{
-  ended,
-  lastByte,
-  withoutReturn,
-  lineOf,
-  restOf,
-  fieldOf,
-  fieldsAfter,
-  isNumber,
-  valueFrom,
-  valueOf,
-  isName,
-  isMethodField,
-  methodNamed,
-}
-use Rattle.lines.specs.Lines.{
-  methodField,
-  houseField,
-  countField,
-  isHead,
-  headRefused,
-  headSays,
-  headOf,
-  nameAt,
-  numberField,
-  numberAt,
-  isPair,
-  isStateLine,
-  isClosingLine,
-  usedIn,
-  stateRefusal,
-  closingRefusal,
-}
-use Rattle.register.specs.Register as Register
-use Rattle.register.specs.Register.{
-  noPopulations,
-  accepts,
-  endOf,
-  closingOf,
-  statesFrom,
-  statesOf,
-  linesOf,
-  readingOf,
-}
-use Rattle.register.specs.Names.{linesAfter, nameRefusalIn, nameRefusalOf, nameOf}
+use Rattle.register.specs.Register.{readingOf}
+use Rattle.register.specs.Names.{nameOf}
+use Rattle.register.specs.Examples.{example, exampleReading, exampleName, examples-hold, example-named}
+use Rattle.register.specs.declared.Reading.{Reading}
 use Rattle.apportionment.specs.Methods.{methodText}
-use Rattle.text.specs.Shared.{numbersText, totalLine}
+use Rattle.text.specs.Shared.{numbersText, totalLine, refusalLine}
 use Rattle.listing.specs.Listing.{
   headLine,
   departureText,
@@ -99,16 +61,7 @@ use Rattle.listing.specs.Listing.{
   listedOf,
   printedOf,
 }
-
-abbrev exampleRegister : List ℕ
-exampleRegister =
-    bytesOf "register,leximin,20,5\n"
-    ++ bytesOf "A,26\n"
-    ++ bytesOf "B,27\n"
-    ++ bytesOf "C,28\n"
-    ++ bytesOf "D,29\n"
-    ++ bytesOf "E,91\n"
-    ++ bytesOf "total,201\n"
+use Rattle.listing.specs.Rows.{same-listing}
 
 abbrev exampleListing : List ℕ
 exampleListing =
@@ -120,15 +73,28 @@ exampleListing =
     ++ bytesOf "E,91,8,13.18,high\n"
     ++ bytesOf "total,201,20\n"
 
--- For the document's register the program prints the document's listing.
-pub example-printed : printedOf exampleRegister ≡ exampleListing
-unfolding printedOf listedOf listedIn fittedOf listingOf listingIn numbersText headLine stateLines stateLine departureText totalLine seatsIn refused
-    allotRefusalIn methodText decimal decimalWith sum sameList less atMost distance sizeOf isBelow nearestWhole hundredthsOf shownOf
-    hundredthsText shownText markOf markText sizesOf insert largestFirst listLess moreAtFirst sizeList chosenBefore withFirst allotments
-    firstOf firstOfAll leximinFor within outside firstRefusal statesOutside houseOutside hasZero sumOutside listMisfits seatsEveryState
-    seatsTooFew problemChecks allotRefusal seatsOf placeOf has before after
-    allBetween ended lastByte withoutReturn lineOf restOf fieldOf fieldsAfter isNumber valueFrom valueOf isName isMethodField methodNamed
-    methodField houseField countField isHead headRefused headSays headOf nameAt numberField numberAt isPair isStateLine isClosingLine usedIn
-    stateRefusal closingRefusal noPopulations Register.refused accepts endOf closingOf statesFrom statesOf linesOf readingOf linesAfter
-    nameRefusalIn nameRefusalOf nameOf
-example-printed = refl
+-- What is read of the document's register, with the names of its states, comes to the document's listing ..
+listing-laid-out : listingIn exampleReading exampleName (seatsIn exampleReading) ≡ exampleListing
+unfolding listingIn numbersText headLine stateLines stateLine departureText totalLine seatsIn methodText decimal decimalWith sum less atMost
+    distance sizeOf isBelow nearestWhole hundredthsOf shownOf hundredthsText shownText markOf markText sizesOf insert largestFirst listLess
+    moreAtFirst sizeList chosenBefore withFirst allotments firstOf firstOfAll leximinFor seatsEveryState seatsOf
+listing-laid-out = refl
+
+listing-is : listingOf example ≡ exampleListing
+unfolding listingOf
+listing-is =
+    ap (λ (r : Reading). listingIn r (nameOf example) (seatsIn r)) (examples-hold .0)
+    ∙ same-listing (nameOf example) exampleName exampleReading (seatsIn exampleReading) example-named
+    ∙ listing-laid-out
+
+-- .. which is not refused, so that the program prints it.
+printed-by-parts : (r : Reading) (text : List ℕ) → r ≡ exampleReading → text ≡ exampleListing
+    → let listed = listedIn r text (length text) in
+    cond (eqb (listed .refusal) accepted) text (refusalLine (listed .refusal) (listed .line)) ≡ exampleListing
+unfolding listedIn fittedOf refused allotRefusalIn sum within outside firstRefusal statesOutside houseOutside hasZero sumOutside listMisfits
+    seatsEveryState seatsTooFew problemChecks allotRefusal
+printed-by-parts r text reading listing = rw (reading, listing)
+
+pub example-printed : printedOf example ≡ exampleListing
+unfolding printedOf listedOf
+example-printed = printed-by-parts (readingOf example) (listingOf example) (examples-hold .0) listing-is

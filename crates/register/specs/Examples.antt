@@ -1,9 +1,10 @@
 -- Document 01's register and two of its refusals, computed by the definitions.
 -- Assumes nothing.
-use mathlib.Core.Path.{_≡_, refl}
+use mathlib.Core.Path.{_≡_, refl, ap, _∙_}
 use mathlib.Core.List.{List, [], _∷_, _++_}
-use Prim.Native.Nat.{ℕ, _-_}
-use lib.ListN.{replicate}
+use Prim.Native.Nat.{ℕ, zero, suc, _-_, _<_}
+use native.Mathlib.Omega.{arith}
+use lib.ListN.{getD, replicate}
 use Rattle.apportionment.specs.Limits.{stateLimit}
 use Rattle.apportionment.specs.Refusals.{accepted, lineIllFormed, numberOutOfLimits}
 use Rattle.apportionment.specs.Lists.{sameList}
@@ -13,9 +14,10 @@ use Rattle.apportionment.specs.declared.Method.the-variants.{Leximin}
 use Rattle.fields.specs.Parts.{placeOf, has, before, after, allBetween}
 use Rattle.apportionment.specs.Methods.{methodText}
 use Rattle.fields.specs.Grammar.{lineFeed, ended, lastByte, withoutReturn, lineOf, restOf, fieldOf, fieldsAfter, isNumber, valueFrom, valueOf, isName, isMethodField, methodNamed}
-use Rattle.lines.specs.Lines.{methodField, houseField, countField, isHead, headRefused, headSays, headOf, nameAt, numberField, numberAt, isPair, isStateLine, isClosingLine, usedIn, stateRefusal, closingRefusal}
+use Rattle.lines.specs.Lines.{methodField, houseField, countField, headFormed, isHead, headRefused, headSays, headOf, nameAt, numberField, numberAt, pairFormed, isPair, isStateLine, isClosingLine, usedIn, entryRefusal, stateRefusal, closingRefusal}
 use Rattle.register.specs.Register.{noPopulations, refused, accepts, endOf, closingOf, statesFrom, statesOf, linesOf, readingOf}
-use Rattle.register.specs.Names.{linesAfter, nameRefusalIn, nameRefusalOf, nameOf}
+use Rattle.register.specs.Names.{rowsOf, linesAfter, nameInRow, nameRefusalIn, nameRefusalOf, nameOf}
+use Rattle.register.specs.Sound.{name-there}
 use Rattle.register.specs.declared.Reading.{Reading}
 
 -- Lines that end in LF, as bytes.
@@ -62,7 +64,26 @@ pub examples-hold :
     × (readingOf [] ≡ refused lineIllFormed 1)
     × (readingOf zeroPopulation ≡ refused numberOutOfLimits 3)
 unfolding sameList within placeOf has before after allBetween ended lastByte withoutReturn lineOf restOf fieldOf fieldsAfter
-    isNumber valueFrom valueOf isName isMethodField methodText methodNamed methodField houseField countField isHead headRefused
-    headSays headOf nameAt numberField numberAt isPair isStateLine isClosingLine usedIn stateRefusal closingRefusal noPopulations
-    refused accepts endOf closingOf statesFrom statesOf linesOf readingOf linesAfter nameRefusalIn nameRefusalOf nameOf
+    isNumber valueFrom valueOf isName isMethodField methodText methodNamed methodField houseField countField headFormed isHead headRefused
+    headSays headOf nameAt numberField numberAt pairFormed isPair isStateLine isClosingLine usedIn entryRefusal stateRefusal
+    closingRefusal noPopulations refused accepts endOf closingOf statesFrom statesOf linesOf readingOf linesAfter nameRefusalIn nameRefusalOf nameOf
 examples-hold = (refl, refl, refl, refl)
+
+-- The names of the example's states.
+abbrev pub exampleName : (place : ℕ) → List ℕ
+exampleName place =
+    getD (bytesOf "A" ∷ bytesOf "B" ∷ bytesOf "C" ∷ bytesOf "D" ∷ bytesOf "E" ∷ []) place []
+
+example-in-row : (i : ℕ) → i < exampleReading .states → nameInRow (rowsOf example) i ≡ exampleName i
+unfolding placeOf before after lastByte withoutReturn lineOf restOf fieldOf nameAt linesAfter
+example-in-row zero below = refl
+example-in-row (suc zero) below = refl
+example-in-row (suc (suc zero)) below = refl
+example-in-row (suc (suc (suc zero))) below = refl
+example-in-row (suc (suc (suc (suc zero)))) below = refl
+example-in-row (suc (suc (suc (suc (suc i))))) below = absurd (omega arith)
+
+pub example-named : (i : ℕ) → i < exampleReading .states → nameOf example i ≡ exampleName i
+example-named i below =
+    name-there example i (ap (λ (r : Reading). r .refusal) (examples-hold .0)) (rw (examples-hold .0) below)
+    ∙ example-in-row i below

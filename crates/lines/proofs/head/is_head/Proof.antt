@@ -2,7 +2,7 @@
 -- Assumes nothing.
 use mathlib.Core.Path.{refl}
 use Rattle.fields.specs.Tests.{failed, passed}
-use Rattle.lines.specs.Cut.{headFormed}
+use Rattle.lines.specs.Lines.{headFormed}
 use borrow.Author.Needs.{needs}
 use Rattle.lines.proofs.head.is_head.Statement.{statement}
 use Rattle.lines.proofs.head.is_head.Tie as tie

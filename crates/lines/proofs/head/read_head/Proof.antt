@@ -4,7 +4,6 @@ use mathlib.Core.Path.{_≡_, _∙_}
 use Rattle.fields.specs.Grammar.{lineOf, fieldOf}
 use Rattle.fields.specs.Tests.{failed, passed}
 use Rattle.lines.specs.Lines.{methodField, houseField, countField, isHead, head-numbers, headOf}
-use Rattle.lines.specs.Cut.{head-formed}
 use borrow.Author.Needs.{needs}
 use Rattle.lines.proofs.head.read_head.Statement.{statement}
 use Rattle.lines.proofs.head.read_head.Tie as tie
@@ -44,6 +43,7 @@ count-is c =
     )
 
 formed : (c : tie.After-is-head) → c .is-head .result ≡ isHead (c .before .before .before .before .before .before .before .before .before .before .before .before .before .before .args .s .now)
+unfolding isHead
 formed c =
     c .is-head .ensures
     ∙
@@ -54,7 +54,6 @@ formed c =
       house-is (c .before .before),
       count-is (c .before .before),
     ))
-    ∙ head-formed _
 
 line-end-requires : tie.Need-line-end-requires
 line-end-requires c κs = search needs

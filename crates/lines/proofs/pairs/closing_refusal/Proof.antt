@@ -3,8 +3,7 @@
 use mathlib.Core.Path.{_≡_, _∙_}
 use borrow.Author.Tests.{eq-eqb, ne-eqb}
 use Rattle.fields.specs.Tests.{failed, passed}
-use Rattle.lines.specs.Lines.{nameAt, numberField, numberAt, isClosingLine, closing-number, closingRefusal}
-use Rattle.lines.specs.Cut.{pair-formed}
+use Rattle.lines.specs.Lines.{nameAt, numberField, numberAt, isPair, isClosingLine, closing-number, closingRefusal}
 use borrow.Author.Needs.{needs}
 use Rattle.lines.proofs.pairs.closing_refusal.Statement.{statement}
 use Rattle.lines.proofs.pairs.closing_refusal.Tie as tie
@@ -18,7 +17,7 @@ unfolding numberField
 digits-are c = c .fields-from .ensures ∙ rw (c .before .before .before .line-to .ensures)
 
 formed : (c : tie.After-is-pair) → c .is-pair .result ≡ isClosingLine (c .before .before .before .before .before .before .before .before .before .before .args .s .now)
-unfolding isClosingLine
+unfolding isClosingLine isPair
 formed c =
     c .is-pair .ensures
     ∙
@@ -28,7 +27,6 @@ formed c =
       word-is (c .before .before .before .before),
       digits-are (c .before .before .before .before),
     ))
-    ∙ pair-formed _ _
 
 total-is : (c : tie.After-value) → c .value .result ≡ numberAt (c .before .before .before .before .before .before .before .before .before .before .before .before .args .s .now)
 unfolding numberAt

@@ -4,7 +4,7 @@ use borrow.Author.Tests.{le-leb, lt-leb}
 use native.Mathlib.Omega.{arith}
 use Rattle.apportionment.specs.Limits.{sumLimit}
 use Rattle.fields.specs.Tests.{failed, passed, within-limits}
-use Rattle.lines.specs.Cut.{entryRefusal}
+use Rattle.lines.specs.Lines.{entryRefusal}
 use borrow.Author.Needs.{needs}
 use Rattle.lines.proofs.pairs.entry_refusal.Statement.{statement}
 use Rattle.lines.proofs.pairs.entry_refusal.Tie as tie

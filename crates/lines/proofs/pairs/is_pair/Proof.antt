@@ -2,7 +2,7 @@
 -- Assumes nothing.
 use mathlib.Core.Path.{refl}
 use Rattle.fields.specs.Tests.{failed, passed}
-use Rattle.lines.specs.Cut.{pairFormed}
+use Rattle.lines.specs.Lines.{pairFormed}
 use borrow.Author.Needs.{needs}
 use Rattle.lines.proofs.pairs.is_pair.Statement.{statement}
 use Rattle.lines.proofs.pairs.is_pair.Tie as tie

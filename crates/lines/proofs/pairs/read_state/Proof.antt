@@ -6,8 +6,8 @@ use mathlib.Core.List.{List}
 use Prim.Native.Nat.{ℕ}
 use Rattle.fields.specs.Tests.{failed, passed}
 use Rattle.fields.specs.Grammar.{fieldOf, fieldsAfter, isName, valueOf}
-use Rattle.lines.specs.Lines.{nameAt, numberField, numberAt, usedIn, isStateLine, state-parts}
-use Rattle.lines.specs.Cut.{pair-formed, entryRefusal, lineRefused, lineRead, line-ill-formed, line-refused, line-accepted}
+use Rattle.lines.specs.Lines.{nameAt, numberField, numberAt, usedIn, entryRefusal, isPair, isStateLine, state-parts}
+use Rattle.lines.specs.Cut.{lineRefused, lineRead, line-ill-formed, line-refused, line-accepted}
 use borrow.Author.Needs.{needs}
 use Rattle.lines.proofs.pairs.read_state.Statement.{statement}
 use Rattle.lines.proofs.pairs.read_state.Tie as tie
@@ -29,7 +29,7 @@ unfolding numberField
 digits-are c = c .fields-from .ensures ∙ ap fieldsAfter (c .before .before .before .line-to .ensures)
 
 formed : (c : tie.After-is-pair) → c .is-pair .result ≡ isStateLine (bytes (c .before .before .before))
-unfolding isStateLine
+unfolding isStateLine isPair
 formed c =
     let parts = c .before .before .before in
     cc (
@@ -38,7 +38,6 @@ formed c =
       c .before .is-name .ensures,
       name-is parts,
       digits-are parts,
-      pair-formed (isName (nameAt (bytes parts))) (bytes parts),
     )
 
 -- What was cut, from where the population is known.
