@@ -1,6 +1,6 @@
-// Runs the cases of the file `stdin`, a line each, and compares. Each line is written as it stands there, then `: as expected`, or
-// `DIFFERS` and what the desk answered from the first difference on; the last line has the number of cases. The file's own first lines say
-// how a case is written.
+// Runs the cases of the file `stdin`, a line each, and compares. Each line is written as it stands there, then `: as expected`; or
+// `: not so, `, what the desk answered from the first difference on, and `: DIFFERS`. The last line has the number of cases. The file's
+// first lines say how a case is written; what is ill-formed or too long is told in capitals.
 mod answers;
 mod cases;
 mod numbers;
@@ -10,6 +10,9 @@ mod signs;
 
 use libc::STDIN_FILENO;
 use libc::STDOUT_FILENO;
+
+// Room for the file of cases: that of `io::large_buffer`.
+const INPUT_ROOM: usize = 65_536;
 
 fn main() {
     let mut input = io::large_buffer();
@@ -21,7 +24,7 @@ fn main() {
 
 // The last words; of input that fills all the room there may be more.
 fn write_end(length: usize) {
-    if length == 65_536 {
+    if length == INPUT_ROOM {
         io::write_all(STDOUT_FILENO, b" cases, AND THERE MAY BE MORE\n");
     } else {
         io::write_all(STDOUT_FILENO, b" cases\n");

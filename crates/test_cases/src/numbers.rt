@@ -2,6 +2,7 @@
 use crate::parts::after;
 use crate::parts::before;
 use libc::STDOUT_FILENO;
+ghost use Prim.Native.Nat.{_<_};
 ghost use Rattle.io.specs.Counts.{Counts};
 
 // The highest number, and what it is without its last digit.
@@ -24,21 +25,22 @@ pub fn number(word: &[u8]) -> u64 {
 }
 
 fn with_digit(value: u64, digit: u8) -> u64 {
-    if digit < 48 {
-        return no_digit();
-    }
-    if 57 < digit {
-        return no_digit();
-    }
     if value < HIGHEST_TENS {
-        return value * 10 + (digit - 48) as u64;
+        return value * 10 + digit_value(digit);
     }
     HIGHEST
 }
 
-fn no_digit() -> u64 {
-    io::write_all(STDOUT_FILENO, b": THIS IS NO NUMBER");
-    0
+fn digit_value(digit: u8) -> u64
+    ensures { λ r. ⌜ r < 10 ⌝ }
+{
+    match digit {
+        48..=57 => (digit - 48) as u64,
+        _ => {
+            io::write_all(STDOUT_FILENO, b": THIS IS NO NUMBER");
+            0
+        }
+    }
 }
 
 // Reads numbers parted by blanks to the front of a list, and hands back how many they are.

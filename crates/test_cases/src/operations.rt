@@ -22,12 +22,12 @@ use placing::Placed;
 use placing::Placing;
 ghost use Rattle.io.specs.Counts.{Counts};
 
-// Room for more states than there may be.
+// Room for a list of more states than there may be, and for the longest buffer that is lent.
 const LIST_ROOM: usize = 300;
 
 const BUFFER_ROOM: usize = 300;
 
-// What a lent buffer holds before the call.
+// What a lent buffer holds before the call: dots.
 const BEFORE: u8 = 46;
 
 // Runs the operation that a word names; its first letter tells which. The answer is told, and the place that is reached in the expected
@@ -172,12 +172,14 @@ fn lists(arguments: &[u8], expected: &[u8]) -> usize {
     lists_into(after_bars(arguments, 1), &mut buffer[..length], expected)
 }
 
+// A length, if the buffer is as long.
 fn within(length: usize, buffer: &[u8]) -> usize
     ensures { λ r. ⌜ Counts r (now (buffer .entry)) ⌝ }
 {
     if length <= buffer.len() {
         return length;
     }
+    io::write_all(STDOUT_FILENO, b": THE BUFFER IS TOO LONG");
     buffer.len()
 }
 

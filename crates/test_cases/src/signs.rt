@@ -58,17 +58,11 @@ fn put_bytes(out: &mut [u8], at: usize, part: &[u8]) -> usize {
 }
 
 fn meant(sign: u8) -> u8 {
-    if sign == b'/' {
-        return 10;
+    match sign {
+        b'/' => 10,
+        b'\\' => 13,
+        b'<' => 31,
+        b'>' => 127,
+        _ => sign,
     }
-    if sign == b'\\' {
-        return 13;
-    }
-    if sign == b'<' {
-        return 31;
-    }
-    if sign == b'>' {
-        return 127;
-    }
-    sign
 }
