@@ -16,7 +16,8 @@ use Rattle.apportionment.specs.declared.Method.{Method}
 use Rattle.apportionment.specs.declared.Method.the-variants.{Leximin, Adams, Dean, Hill, Webster, Jefferson, Remainders}
 use Rattle.fields.specs.declared.Named.{Named}
 use Rattle.fields.specs.declared.Named.the-variants.{Known, Unknown}
-use Rattle.fields.specs.Tests.{both, within-limits}
+use Rattle.fields.specs.Tests.{both}
+use Rattle.apportionment.specs.inner.Checks.{within-limits}
 use Rattle.fields.specs.Parts.{has, before, after, allBetween, drop-step, between-at}
 
 -- The bytes that part lines and fields.

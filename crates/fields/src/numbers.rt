@@ -2,20 +2,9 @@
 use crate::parts::all_between;
 ghost use mathlib.Core.Path.{_≡_};
 ghost use mathlib.Core.Bool.{true};
-ghost use Rattle.apportionment.specs.Checks.{within};
 ghost use Rattle.fields.specs.Grammar.{isNumber, valueOf};
 
 const DIGIT_LIMIT: usize = 10;
-
-// Whether a number is at least 1 and at most the limit.
-pub fn within(x: u64, limit: u64) -> bool
-    ensures { λ r. ⌜ r ≡ within limit x ⌝ }
-{
-    if x == 0 {
-        return false;
-    }
-    x <= limit
-}
 
 // Whether a field is a number: 1 to 10 digits.
 pub fn is_number(f: &[u8]) -> bool

@@ -10,7 +10,8 @@ use lib.ListN.{length}
 use Rattle.apportionment.specs.Refusals.{accepted, lineIllFormed}
 use Rattle.fields.specs.Parts.{placeOf}
 use Rattle.fields.specs.Grammar.{lineFeed}
-use Rattle.lines.specs.Lines.{nameAt, numberAt, isStateLine, usedIn, entryRefusal, stateRefusal}
+use Rattle.lines.specs.Lines.{nameAt, numberAt, isStateLine, usedIn, stateRefusal}
+use Rattle.lines.specs.inner.Lines.{entryRefusal, state-by-parts}
 use Rattle.lines.specs.Fingerprints.{fingerprintOf}
 use Rattle.lines.specs.declared.pairs.StateLine.{StateLine}
 
@@ -36,19 +37,19 @@ stateLineOf first k sum s =
 -- What it hands on by the tests that the code makes.
 pub line-ill-formed : (first : List ℕ) (k sum : ℕ) (s : List ℕ) → isStateLine s ≡ false
     → stateLineOf first k sum s ≡ lineRefused lineIllFormed
-unfolding stateLineOf stateRefusal
-line-ill-formed first k sum s ill = rw ill
+unfolding stateLineOf
+line-ill-formed first k sum s ill = rw (state-by-parts, ill)
 
 pub line-refused : (first : List ℕ) (k sum : ℕ) (s : List ℕ) → isStateLine s ≡ true
     → (entryRefusal (usedIn k first (nameAt s)) sum (numberAt s) ≡ accepted → ⊥)
     → stateLineOf first k sum s ≡ lineRefused (entryRefusal (usedIn k first (nameAt s)) sum (numberAt s))
-unfolding stateLineOf stateRefusal
-line-refused first k sum s formed bad = rw (formed, ne-eqb _ accepted bad)
+unfolding stateLineOf
+line-refused first k sum s formed bad = rw (state-by-parts, formed, ne-eqb _ accepted bad)
 
 pub line-accepted : (first : List ℕ) (k sum : ℕ) (s : List ℕ) → isStateLine s ≡ true
     → entryRefusal (usedIn k first (nameAt s)) sum (numberAt s) ≡ accepted → stateLineOf first k sum s ≡ lineRead s
-unfolding stateLineOf stateRefusal
-line-accepted first k sum s formed good = rw (formed, eq-eqb _ accepted good)
+unfolding stateLineOf
+line-accepted first k sum s formed good = rw (state-by-parts, formed, eq-eqb _ accepted good)
 
 -- For a caller: its refusal is the line's, and where that is none, what it hands on is as read.
 pub line-refusal : (first : List ℕ) (k sum : ℕ) (s : List ℕ) → stateLineOf first k sum s .refusal ≡ stateRefusal first k sum s

@@ -3,3 +3,4 @@ pub mod Lines
 pub mod Fingerprints
 pub mod Places
 pub mod Cut
+pub mod inner

@@ -1,5 +1,8 @@
 // Line 1: `register`, method, house, count of states.
+use apportionment::HOUSE_LIMIT;
 use apportionment::Method;
+use apportionment::STATE_LIMIT;
+use apportionment::outside;
 use apportionment::refusals;
 use fields::Named;
 use fields::cut;
@@ -7,7 +10,8 @@ use fields::numbers;
 use fields::parts;
 use fields::words;
 ghost use mathlib.Core.Path.{_≡_};
-ghost use Rattle.lines.specs.Lines.{headFormed, headRefused, headSays, headOf};
+ghost use Rattle.lines.specs.Lines.{headFormed, headRefused, headOf};
+ghost use Rattle.lines.specs.inner.Lines.{headSays};
 
 // What line 1 says, or its refusal; 0 is no refusal. Refused, the rest is 0 and the method is leximin.
 pub struct Head {
@@ -54,10 +58,10 @@ fn says(named: Named, house: u64, states: u64) -> Head
     let Named::Known(method) = named else {
         return refused(refusals::METHOD_UNKNOWN);
     };
-    if !numbers::within(house, apportionment::HOUSE_LIMIT) {
+    if outside(HOUSE_LIMIT, house) {
         return refused(refusals::NUMBER_OUT_OF_LIMITS);
     }
-    if !numbers::within(states, apportionment::STATE_LIMIT as u64) {
+    if outside(STATE_LIMIT as u64, states) {
         return refused(refusals::NUMBER_OUT_OF_LIMITS);
     }
     Head {

@@ -2,6 +2,7 @@
 use crate::fingerprints::fingerprint;
 use crate::fingerprints::holds;
 use apportionment::SUM_LIMIT;
+use apportionment::outside;
 use apportionment::refusals;
 use fields::cut;
 use fields::numbers;
@@ -11,7 +12,8 @@ ghost use mathlib.Core.Path.{_≡_};
 ghost use Prim.Native.Nat.{_≤_};
 ghost use Rattle.apportionment.specs.Limits.{sumLimit};
 ghost use Rattle.apportionment.specs.Lists.{sameList};
-ghost use Rattle.lines.specs.Lines.{nameAt, pairFormed, usedIn, entryRefusal, closingRefusal};
+ghost use Rattle.lines.specs.Lines.{nameAt, pairFormed, usedIn, closingRefusal};
+ghost use Rattle.lines.specs.inner.Lines.{entryRefusal};
 ghost use Rattle.lines.specs.Fingerprints.{fingerprintOf};
 ghost use Rattle.lines.specs.Places.{partOf, Printed, NamesKept};
 ghost use Rattle.lines.specs.Cut.{lineRefused, stateLineOf};
@@ -106,7 +108,7 @@ fn entry_refusal(used: bool, sum: u64, p: u64) -> u64
     requires { ⌜ sum ≤ sumLimit ⌝ }
     ensures { λ r. ⌜ r ≡ entryRefusal used sum p ⌝ }
 {
-    if !numbers::within(p, SUM_LIMIT) {
+    if outside(SUM_LIMIT, p) {
         return refusals::NUMBER_OUT_OF_LIMITS;
     }
     if used {
@@ -115,7 +117,7 @@ fn entry_refusal(used: bool, sum: u64, p: u64) -> u64
     if SUM_LIMIT < sum + p {
         return refusals::RUNNING_SUM_TOO_LARGE;
     }
-    0
+    refusals::ACCEPTED
 }
 
 fn refused(refusal: u64) -> StateLine
@@ -181,11 +183,11 @@ pub fn closing_refusal(sum: u64, s: &[u8]) -> u64
         return refusals::LINE_ILL_FORMED;
     }
     let total = numbers::value(digits);
-    if !numbers::within(total, SUM_LIMIT) {
+    if outside(SUM_LIMIT, total) {
         return refusals::NUMBER_OUT_OF_LIMITS;
     }
     if total != sum {
         return refusals::TOTAL_DIFFERS;
     }
-    0
+    refusals::ACCEPTED
 }

@@ -9,12 +9,13 @@ use Rattle.apportionment.specs.Limits.{stateLimit}
 use Rattle.apportionment.specs.Refusals.{accepted, lineIllFormed, numberOutOfLimits}
 use Rattle.apportionment.specs.Lists.{sameList}
 use Rattle.apportionment.specs.Text.{bytesOf}
-use Rattle.apportionment.specs.Checks.{within}
+use Rattle.apportionment.specs.Checks.{within, outside, firstRefusal}
 use Rattle.apportionment.specs.declared.Method.the-variants.{Leximin}
 use Rattle.fields.specs.Parts.{placeOf, has, before, after, allBetween}
 use Rattle.apportionment.specs.Methods.{methodText}
 use Rattle.fields.specs.Grammar.{lineFeed, ended, lastByte, withoutReturn, lineOf, restOf, fieldOf, fieldsAfter, isNumber, valueFrom, valueOf, isName, isMethodField, methodNamed}
-use Rattle.lines.specs.Lines.{methodField, houseField, countField, headFormed, isHead, headRefused, headSays, headOf, nameAt, numberField, numberAt, pairFormed, isPair, isStateLine, isClosingLine, usedIn, entryRefusal, stateRefusal, closingRefusal}
+use Rattle.lines.specs.Lines.{methodField, houseField, countField, headFormed, isHead, headRefused, headOf, nameAt, numberField, numberAt, pairFormed, isPair, isStateLine, isClosingLine, usedIn, stateRefusal, closingRefusal}
+use Rattle.lines.specs.Lines.{isUnknown, methodIn, headRefusal, headRead}
 use Rattle.register.specs.Register.{noPopulations, refused, accepts, endOf, closingOf, statesFrom, statesOf, linesOf, readingOf}
 use Rattle.register.specs.Names.{rowsOf, linesAfter, nameInRow, nameRefusalIn, nameRefusalOf, nameOf}
 use Rattle.register.specs.Sound.{name-there}
@@ -63,9 +64,9 @@ pub examples-hold :
     × (nameOf example 4 ≡ bytesOf "E")
     × (readingOf [] ≡ refused lineIllFormed 1)
     × (readingOf zeroPopulation ≡ refused numberOutOfLimits 3)
-unfolding sameList within placeOf has before after allBetween ended lastByte withoutReturn lineOf restOf fieldOf fieldsAfter
-    isNumber valueFrom valueOf isName isMethodField methodText methodNamed methodField houseField countField headFormed isHead headRefused
-    headSays headOf nameAt numberField numberAt pairFormed isPair isStateLine isClosingLine usedIn entryRefusal stateRefusal
+unfolding sameList within outside firstRefusal placeOf has before after allBetween ended lastByte withoutReturn lineOf restOf fieldOf fieldsAfter
+    isNumber valueFrom valueOf isName isMethodField methodText methodNamed methodField houseField countField headFormed isHead
+    isUnknown methodIn headRefusal headRefused headRead headOf nameAt numberField numberAt pairFormed isPair isStateLine isClosingLine usedIn stateRefusal
     closingRefusal noPopulations refused accepts endOf closingOf statesFrom statesOf linesOf readingOf linesAfter nameRefusalIn nameRefusalOf nameOf
 examples-hold = (refl, refl, refl, refl)
 

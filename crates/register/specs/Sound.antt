@@ -14,7 +14,8 @@ use Rattle.apportionment.specs.Limits.{stateLimit, houseLimit, sumLimit, regist
 use Rattle.apportionment.specs.Refusals.{accepted, lineIllFormed, registerTooLong}
 use Rattle.apportionment.specs.Lists.{sum}
 use Rattle.fields.specs.Grammar.{restOf, isName}
-use Rattle.lines.specs.Lines.{head-sound, headOf, nameAt, numberAt, stateRefusal, state-sound, closingRefusal}
+use Rattle.lines.specs.inner.Lines.{head-sound, state-sound}
+use Rattle.lines.specs.Lines.{headOf, nameAt, numberAt, stateRefusal, closingRefusal}
 use Rattle.register.specs.Register.{noPopulations, refused, accepts, endOf, closingOf, statesFrom, states-passed, statesOf, linesOf, readingOf}
 use Rattle.register.specs.Names.{linesAfter, nameRefusalIn, nameRefusalOf, nameOf}
 use Rattle.lines.specs.declared.head.Head.{Head}

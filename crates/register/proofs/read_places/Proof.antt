@@ -8,7 +8,8 @@ use borrow.Author.Tests.{lt-ltb, le-ltb, eq-eqb, ne-eqb}
 use lib.ListN.{length}
 use Rattle.apportionment.specs.Limits.{registerLimit}
 use Rattle.apportionment.specs.Refusals.{accepted}
-use Rattle.lines.specs.Lines.{headOf, head-sound}
+use Rattle.lines.specs.Lines.{headOf}
+use Rattle.lines.specs.inner.Lines.{head-sound}
 use Rattle.lines.specs.Places.{rest-is-end}
 use Rattle.register.specs.Register.{refused, readingOf, linesOf, statesOf}
 use Rattle.register.specs.Names.{rowsOf}

@@ -3,7 +3,8 @@
 use mathlib.Core.Path.{_≡_, _∙_}
 use Rattle.fields.specs.Grammar.{lineOf, fieldOf}
 use Rattle.fields.specs.Tests.{failed, passed}
-use Rattle.lines.specs.Lines.{methodField, houseField, countField, isHead, head-numbers, headOf}
+use Rattle.lines.specs.Lines.{methodField, houseField, countField, isHead}
+use Rattle.lines.specs.inner.Lines.{head-numbers, head-by-parts}
 use borrow.Author.Needs.{needs}
 use Rattle.lines.proofs.head.read_head.Statement.{statement}
 use Rattle.lines.proofs.head.read_head.Tie as tie
@@ -98,8 +99,7 @@ refused-requires : tie.Need-refused-requires
 refused-requires c κs = search needs
 
 returns : tie.Need-returns
-unfolding headOf
-returns c = c .refused .ensures ∙ simp (failed (formed (c .before .before)) (c .before .if1 .taken))
+returns c = c .refused .ensures ∙ simp (head-by-parts, failed (formed (c .before .before)) (c .before .if1 .taken))
 
 method-named-requires : tie.Need-method-named-requires
 method-named-requires c κs = search needs
@@ -120,10 +120,10 @@ says-requires : tie.Need-says-requires
 says-requires c κs = search needs
 
 returns-2 : tie.Need-returns-2
-unfolding headOf
 returns-2 c =
     c .says .ensures
     ∙ simp (
+      head-by-parts,
       passed (formed (c .before .before .before .before .before)) (c .before .before .before .before .if1 .left),
       c .before .before .before .method-named .ensures,
       c .before .before .value .ensures,

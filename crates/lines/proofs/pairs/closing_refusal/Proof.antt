@@ -1,38 +1,53 @@
 -- `closing_refusal` cuts the line once and makes the checks over its parts. What the parts and the answers are stands first.
 -- Assumes nothing.
-use mathlib.Core.Path.{_≡_, _∙_}
+use mathlib.Core.Path.{_≡_, sym, ap, _∙_}
+use mathlib.Core.List.{List}
+use Prim.Native.Nat.{ℕ}
 use borrow.Author.Tests.{eq-eqb, ne-eqb}
 use Rattle.fields.specs.Tests.{failed, passed}
-use Rattle.lines.specs.Lines.{nameAt, numberField, numberAt, isPair, isClosingLine, closing-number, closingRefusal}
+use Rattle.fields.specs.Grammar.{fieldOf, fieldsAfter, valueOf}
+use Rattle.lines.specs.Lines.{nameAt, numberField, numberAt, isPair, isClosingLine, closingRefusal}
+use Rattle.lines.specs.inner.Lines.{closing-number}
+use Rattle.apportionment.specs.Checks.{firstRefusal}
 use borrow.Author.Needs.{needs}
 use Rattle.lines.proofs.pairs.closing_refusal.Statement.{statement}
 use Rattle.lines.proofs.pairs.closing_refusal.Tie as tie
 
-word-is : (c : tie.After-fields-from) → c .before .field-to .result .now ≡ nameAt (c .before .before .before .before .before .before .args .s .now)
+-- The bytes from the line on, where it is cut.
+abbrev bytes : tie.After-fields-from → List ℕ
+bytes c =
+    let start = c .before .before .before .before .before in
+    start .before .args .s .now
+
+word-is : (c : tie.After-fields-from) → c .before .field-to .result .now ≡ nameAt (bytes c)
 unfolding nameAt
-word-is c = c .before .field-to .ensures ∙ rw (c .before .before .before .line-to .ensures)
+word-is c = c .before .field-to .ensures ∙ ap fieldOf (c .before .before .before .line-to .ensures)
 
-digits-are : (c : tie.After-fields-from) → c .fields-from .result .now ≡ numberField (c .before .before .before .before .before .before .args .s .now)
+digits-are : (c : tie.After-fields-from) → c .fields-from .result .now ≡ numberField (bytes c)
 unfolding numberField
-digits-are c = c .fields-from .ensures ∙ rw (c .before .before .before .line-to .ensures)
+digits-are c = c .fields-from .ensures ∙ ap fieldsAfter (c .before .before .before .line-to .ensures)
 
-formed : (c : tie.After-is-pair) → c .is-pair .result ≡ isClosingLine (c .before .before .before .before .before .before .before .before .before .before .args .s .now)
+formed : (c : tie.After-is-pair) → c .is-pair .result ≡ isClosingLine (bytes (c .before .before .before .before))
 unfolding isClosingLine isPair
 formed c =
-    c .is-pair .ensures
-    ∙
-    (rw (
+    let parts = c .before .before .before .before in
+    cc (
+      c .is-pair .ensures,
       c .before .before .before .is-ended .ensures,
       c .before .same .ensures,
-      word-is (c .before .before .before .before),
-      digits-are (c .before .before .before .before),
-    ))
+      word-is parts,
+      digits-are parts,
+    )
 
-total-is : (c : tie.After-value) → c .value .result ≡ numberAt (c .before .before .before .before .before .before .before .before .before .before .before .before .args .s .now)
+-- Where the total is known the line was cut.
+abbrev cut : tie.After-value → tie.After-fields-from
+cut c =
+    let tested = c .before .before .before .before .before in
+    tested .before
+
+total-is : (c : tie.After-value) → c .value .result ≡ numberAt (bytes (cut c))
 unfolding numberAt
-total-is c =
-    let start = c .before .before .before .before .before .before in
-    c .value .ensures ∙ rw (digits-are start)
+total-is c = c .value .ensures ∙ ap valueOf (digits-are (cut c))
 
 line-end-requires : tie.Need-line-end-requires
 line-end-requires c κs = search needs
@@ -62,40 +77,48 @@ is-pair-requires : tie.Need-is-pair-requires
 is-pair-requires c κs = search needs
 
 returns : tie.Need-returns
-unfolding closingRefusal
+unfolding closingRefusal firstRefusal
 returns c = simp (failed (formed (c .before)) (c .if1 .taken))
 
 value-requires : tie.Need-value-requires
 value-requires c κs =
     rw (digits-are (c .before .before .before .before .before)) (closing-number _ (passed (formed (c .before)) (c .if1 .left)))
 
-within-requires : tie.Need-within-requires
-within-requires c κs = search needs
+outside-requires : tie.Need-outside-requires
+outside-requires c κs = search needs
 
 returns-2 : tie.Need-returns-2
-unfolding closingRefusal
+unfolding closingRefusal firstRefusal
 returns-2 c =
+    let value = c .before .before in
+    let line = value .before in
     simp (
-      passed (formed (c .before .before .before .before)) (c .before .before .before .if1 .left),
-      rw (total-is (c .before .before)) at (failed (c .before .within .ensures) (c .if2 .taken)),
+      passed (formed (line .before)) (line .if1 .left),
+      rw (total-is value) at (sym (c .before .outside .ensures) ∙ c .if2 .taken),
     )
 
 returns-3 : tie.Need-returns-3
-unfolding closingRefusal
+unfolding closingRefusal firstRefusal
 returns-3 c =
+    let number = c .before in
+    let value = number .before .before in
+    let line = value .before in
     simp (
-      passed (formed (c .before .before .before .before .before)) (c .before .before .before .before .if1 .left),
-      rw (total-is (c .before .before .before)) at (passed (c .before .before .within .ensures) (c .before .if2 .left)),
-      rw (total-is (c .before .before .before)) at (ne-eqb _ _ (c .if3 .taken)),
+      passed (formed (line .before)) (line .if1 .left),
+      rw (total-is value) at (sym (number .before .outside .ensures) ∙ number .if2 .left),
+      rw (total-is value) at (ne-eqb _ _ (c .if3 .taken)),
     )
 
 returns-4 : tie.Need-returns-4
-unfolding closingRefusal
+unfolding closingRefusal firstRefusal
 returns-4 c =
+    let number = c .before in
+    let value = number .before .before in
+    let line = value .before in
     simp (
-      passed (formed (c .before .before .before .before .before)) (c .before .before .before .before .if1 .left),
-      rw (total-is (c .before .before .before)) at (passed (c .before .before .within .ensures) (c .before .if2 .left)),
-      rw (total-is (c .before .before .before)) at (eq-eqb _ _ (c .if3 .left)),
+      passed (formed (line .before)) (line .if1 .left),
+      rw (total-is value) at (sym (number .before .outside .ensures) ∙ number .if2 .left),
+      rw (total-is value) at (eq-eqb _ _ (c .if3 .left)),
     )
 
 pub closing-refusal-spec : {M : Type 1} → statement M
@@ -113,7 +136,7 @@ closing-refusal-spec =
     is-pair-requires
     returns
     value-requires
-    within-requires
+    outside-requires
     returns-2
     returns-3
     returns-4)
