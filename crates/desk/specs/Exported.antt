@@ -1,13 +1,11 @@
 -- The records of the C interface from those of the operations: the same values field for field, an enum as its number.
 -- Assumes nothing.
-use mathlib.Core.Path.{_≡_}
 use mathlib.Core.Option.{Option, Option·getD}
 use Prim.Native.Nat.{ℕ}
 use lib.IntN.{ℤ, pos}
 use Rattle.apportionment.specs.declared.Mark.{Mark}
 use Rattle.apportionment.specs.declared.Mark.the-variants.{None}
-use Rattle.departure.specs.Answer.{AnswerIs, departureRefusal, departureShown, departureMark, numberOf, shownIn, markIn}
-use Rattle.departure.specs.declared.Answer.{Answer}
+use Rattle.departure.specs.Answer.{departureRefusal, departureShown, departureMark}
 use Rattle.listing.specs.declared.Listed.{Listed}
 use Rattle.placing.specs.declared.Placing.{Placing}
 use Rattle.placing.specs.declared.Placed.{Placed}
@@ -62,19 +60,9 @@ unfoldable pub exportedShown : (refusal : ℕ) → Option ℤ → Option Mark �
 exportedShown refusal shown mark =
     record { refusal = refusal; hundredths = Option·getD shown (pos 0); mark = markNumber (Option·getD mark None) }
 
--- That record from an answer's number and values, and from those of the operation.
-unfoldable pub exportedAnswer : Answer → DeskShown
-exportedAnswer answer = exportedShown (numberOf answer) (shownIn answer) (markIn answer)
-
 unfoldable pub exportedDeparture : (p a P H : ℕ) → DeskShown
 exportedDeparture p a P H =
     exportedShown (departureRefusal p a P H) (departureShown p a P H) (departureMark p a P H)
-
--- The answer that the operation promises gives the operation's record.
-pub answer-exported : {p a P H : ℕ} {answer : Answer}
-    → AnswerIs p a P H answer → exportedAnswer answer ≡ exportedDeparture p a P H
-unfolding exportedAnswer exportedDeparture
-answer-exported is = rw (is .number, is .shown, is .mark)
 
 unfoldable pub exportedListed : Listed → DeskWritten
 exportedListed l = record { refusal = l .refusal; line = l .line; length = l .size }

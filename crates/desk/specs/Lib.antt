@@ -3,3 +3,4 @@ pub mod Numbers
 pub mod Exported
 pub mod Allotting
 pub mod Part
+pub mod inner

@@ -1,6 +1,5 @@
 -- The numbers that stand for the methods and the marks in the C interface, each in document 01's order.
 -- Assumes nothing.
-use mathlib.Core.Path.{_≡_, refl}
 use mathlib.Core.Bool.{cond}
 use Prim.Native.Nat.{ℕ}
 use lib.Dec.{eqb}
@@ -31,17 +30,6 @@ methodAt n =
     (cond (eqb n 3) Hill
     (cond (eqb n 4) Webster
     (cond (eqb n 5) Jefferson Remainders)))))
-
--- A method's number leads back to it.
-pub number-names-method : (m : Method) → methodAt (methodNumber m) ≡ m
-unfolding methodAt methodNumber
-number-names-method Leximin = refl
-number-names-method Adams = refl
-number-names-method Dean = refl
-number-names-method Hill = refl
-number-names-method Webster = refl
-number-names-method Jefferson = refl
-number-names-method Remainders = refl
 
 -- The number of the mark of a state without seats.
 abbrev pub markNone : ℕ

@@ -24,7 +24,8 @@ ghost use Rattle.placing.specs.Placing.{openedOf, steppedOf};
 ghost use Rattle.register.specs.Register.{readingOf};
 ghost use Rattle.desk.specs.Numbers.{methodNumber, methodAt, markNumber};
 ghost use Rattle.desk.specs.Exported.{exportedReading, exportedPlacing, innerPlacing, exportedPlaced, exportedListed};
-ghost use Rattle.desk.specs.Exported.{exportedShown, exportedAnswer, exportedDeparture};
+ghost use Rattle.desk.specs.Exported.{exportedShown, exportedDeparture};
+ghost use Rattle.desk.specs.inner.Exported.{exportedAnswer};
 ghost use Rattle.desk.specs.Allotting.{allottedBy, seatsBy};
 ghost use Rattle.desk.specs.Part.{partOf};
 

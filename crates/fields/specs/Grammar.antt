@@ -1,24 +1,17 @@
 -- Document 01, "The register": what a line, a field, a number, a name and the word of a method are.
 -- Assumes nothing.
-use mathlib.Core.Path.{_≡_, refl}
-use mathlib.Core.Bool.{Bool, true, false, cond}
+use mathlib.Core.Bool.{Bool, false, cond}
 use mathlib.Core.List.{List, [], _∷_}
-use Prim.Native.Nat.{ℕ, _+_, _-_, _*_, _^_, _<_, _≤_}
-use native.Mathlib.Nat.{pow-suc, pow-le-pow-right, lt-of-lt-of-le}
-use native.Mathlib.Numerals.{add-one}
-use native.Mathlib.Omega.{arith}
+use Prim.Native.Nat.{ℕ, _+_, _-_, _*_}
 use lib.Dec.{eqb}
-use lib.ListN.{length, getD, take, drop, drop-of-length-le}
+use lib.ListN.{length, getD, take}
 use Rattle.apportionment.specs.Lists.{sameList}
 use Rattle.apportionment.specs.Methods.{methodText}
 use Rattle.apportionment.specs.Checks.{within}
-use Rattle.apportionment.specs.declared.Method.{Method}
 use Rattle.apportionment.specs.declared.Method.the-variants.{Leximin, Adams, Dean, Hill, Webster, Jefferson, Remainders}
 use Rattle.fields.specs.declared.Named.{Named}
 use Rattle.fields.specs.declared.Named.the-variants.{Known, Unknown}
-use Rattle.fields.specs.Tests.{both}
-use Rattle.apportionment.specs.inner.Checks.{within-limits}
-use Rattle.fields.specs.Parts.{has, before, after, allBetween, drop-step, between-at}
+use Rattle.fields.specs.Parts.{has, before, after, allBetween}
 
 -- The bytes that part lines and fields.
 abbrev pub lineFeed : ℕ
@@ -46,11 +39,6 @@ lastByte s = getD s (length s - 1) 0
 -- A line without the CR of its end, if it has one.
 unfoldable pub withoutReturn : List ℕ → List ℕ
 withoutReturn s = cond (eqb (lastByte s) carriageReturn) (take (length s - 1) s) s
-
-pub nothing-without-return : (s : List ℕ) → length s ≡ 0 → s ≡ withoutReturn s
-unfolding withoutReturn lastByte
-nothing-without-return [] none = refl
-nothing-without-return (x ∷ s) none = absurd (omega arith)
 
 -- The first line of what is left, without its end: LF, or CR LF.
 unfoldable pub lineOf : List ℕ → List ℕ
@@ -88,33 +76,6 @@ valueFrom v (d ∷ f) = valueFrom (v * 10 + (d - 48)) f
 unfoldable pub valueOf : List ℕ → ℕ
 valueOf f = valueFrom 0 f
 
-pub value-step : (v : ℕ) (f : List ℕ) (i : ℕ) → i < length f
-    → valueFrom v (drop i f) ≡ valueFrom (v * 10 + (getD f i 0 - 48)) (drop (i + 1) f)
-unfolding valueFrom
-value-step v f i inside = rw (drop-step f i inside)
-
-pub value-end : (v : ℕ) (f : List ℕ) (i : ℕ) → length f ≤ i → valueFrom v (drop i f) ≡ v
-unfolding valueFrom
-value-end v f i past = rw (drop-of-length-le f past)
-
--- A number's bytes are at most 10, and each is a digit.
-pub record Digits (f : List ℕ) : Type 0 where
-  pub few : length f ≤ digitLimit
-  pub each : (i : ℕ) → i < length f → (48 ≤ getD f i 0) × (getD f i 0 ≤ 57)
-
-pub number-digits : (f : List ℕ) → isNumber f ≡ true → Digits f
-unfolding isNumber
-number-digits f number =
-    let parts = both (within digitLimit (length f)) (allBetween 48 57 f) number in
-    record { few = within-limits digitLimit (length f) (parts .0) .1; each = between-at 48 57 f (parts .1) }
-
--- One digit more after at most nine: the value has one place more, and ten places fit a machine word.
-pub digit-more : (v i x : ℕ) → v < 10 ^ i → x ≤ 57 → v * 10 + (x - 48) < 10 ^ (i + 1)
-digit-more v i x small digit = rw (add-one, pow-suc) (omega arith)
-
-pub ten-places : (v i : ℕ) → v < 10 ^ i → i ≤ digitLimit → v < 10 ^ digitLimit
-ten-places v i small few = lt-of-lt-of-le small (pow-le-pow-right (omega arith) few)
-
 -- ---- names and words
 
 -- The most bytes of a name or of a method field.
@@ -128,10 +89,6 @@ isName f =
     (cond (eqb (getD f 0 0) blank) false
     (cond (eqb (lastByte f) blank) false (allBetween 32 126 f)))
     false
-
-pub name-length : (f : List ℕ) → isName f ≡ true → (1 ≤ length f) × (length f ≤ wordLimit)
-unfolding isName
-name-length f name = within-limits wordLimit (length f) (both (within wordLimit (length f)) _ name .0)
 
 -- A method field: 1 to 32 bytes from 33 to 126.
 unfoldable pub isMethodField : List ℕ → Bool

@@ -1,6 +1,6 @@
 // Fingerprints of names. A name is compared with those before it only where its fingerprint is one of theirs.
 ghost use mathlib.Core.Path.{_≡_};
-ghost use Rattle.lines.specs.Fingerprints.{fingerprintOf, holds};
+ghost use Rattle.lines.specs.inner.Fingerprints.{fingerprintOf, holds};
 
 // What a fingerprint is multiplied by at each byte: the prime of the FNV hash of 32 bits. It only has to part most names; names of one
 // fingerprint are compared byte by byte.

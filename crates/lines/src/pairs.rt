@@ -14,9 +14,9 @@ ghost use Rattle.apportionment.specs.Limits.{sumLimit};
 ghost use Rattle.apportionment.specs.Lists.{sameList};
 ghost use Rattle.lines.specs.Lines.{nameAt, pairFormed, usedIn, closingRefusal};
 ghost use Rattle.lines.specs.inner.Lines.{entryRefusal};
-ghost use Rattle.lines.specs.Fingerprints.{fingerprintOf};
-ghost use Rattle.lines.specs.Places.{partOf, Printed, NamesKept};
-ghost use Rattle.lines.specs.Cut.{lineRefused, stateLineOf};
+ghost use Rattle.lines.specs.inner.Fingerprints.{fingerprintOf};
+ghost use Rattle.lines.specs.inner.Places.{partOf, Printed, NamesKept};
+ghost use Rattle.lines.specs.inner.Cut.{lineRefused, stateLineOf};
 
 // What a state's line says: its refusal, or 0 and the population, the name's fingerprint and length, and the place where the line ends.
 pub struct StateLine {

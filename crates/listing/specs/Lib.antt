@@ -1,7 +1,3 @@
 -- The listing of a register, for any bytes: its text, its refusals, and the lent buffer afterwards.
 pub mod Listing
-pub mod Rows
-pub mod Room
-pub mod Listed
-pub mod Printed
-pub mod Example
+pub mod inner

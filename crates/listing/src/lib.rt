@@ -11,8 +11,8 @@ ghost use Rattle.register.specs.Names.{rowsOf, nameInRow};
 ghost use Rattle.register.specs.inner.Rows.{Placed};
 ghost use Rattle.text.specs.Writing.{Wrote};
 ghost use Rattle.listing.specs.Listing.{listingIn, refused, ListingIs, printedOf};
-ghost use Rattle.listing.specs.Room.{AllListable};
-ghost use Rattle.listing.specs.Listed.{GoodReading, HandedOver};
+ghost use Rattle.listing.specs.inner.Room.{AllListable};
+ghost use Rattle.listing.specs.inner.Listed.{GoodReading, HandedOver};
 
 // Room for every listing there is, as specs/Room.antt shows; a listing is written there first, so that a buffer that is too short stays as
 // it is. The numbers are the longest head, the longest line of a state and the longest line of totals.

@@ -11,7 +11,7 @@ ghost use Rattle.register.specs.Names.{nameInRow};
 ghost use Rattle.register.specs.inner.Rows.{Placed};
 ghost use Rattle.text.specs.Writing.{Wrote};
 ghost use Rattle.listing.specs.Listing.{headLine, departureText, stateLine, stateLines};
-ghost use Rattle.listing.specs.Rows.{Rows};
+ghost use Rattle.listing.specs.inner.Rows.{Rows};
 
 // Line 1.
 pub fn put_head(out: &mut [u8], at: usize, method: Method, house: u64, states: u64) -> usize

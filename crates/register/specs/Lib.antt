@@ -1,6 +1,4 @@
 -- What reading a register gives, for any bytes: its refusals and lines, or what it says.
 pub mod Register
 pub mod Names
-pub mod Sound
-pub mod Examples
 pub mod inner

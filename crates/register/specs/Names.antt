@@ -1,11 +1,8 @@
 -- Document 01, "Operations": the name of the state with a given place, counted from 0, and its refusal.
 -- Assumes nothing.
-use mathlib.Core.Path.{_≡_, refl}
 use mathlib.Core.Bool.{cond}
 use mathlib.Core.List.{List, []}
-use Prim.Native.Nat.{ℕ, zero, suc, _-_, _<_, _≤_}
-use native.Mathlib.Numerals.{sub-one}
-use native.Mathlib.Omega.{arith}
+use Prim.Native.Nat.{ℕ, zero, suc, _-_}
 use lib.Dec.{ltb, eqb}
 use Rattle.apportionment.specs.Refusals.{accepted, placeOutOfStates}
 use Rattle.fields.specs.Grammar.{restOf}
@@ -22,21 +19,6 @@ rowsOf s = restOf s
 unfoldable pub linesAfter : (k : ℕ) → List ℕ → List ℕ
 linesAfter zero s = s
 linesAfter (suc k) s = linesAfter k (restOf s)
-
-pub lines-none : (k : ℕ) (s : List ℕ) → k ≤ 0 → linesAfter k s ≡ s
-unfolding linesAfter
-lines-none zero s none = refl
-lines-none (suc k) s none = absurd (omega arith)
-
-pub lines-step : (k : ℕ) (s : List ℕ) → 0 < k → linesAfter k s ≡ linesAfter (k - 1) (restOf s)
-unfolding linesAfter
-lines-step zero s some = absurd (omega arith)
-lines-step (suc k) s some = rw (sub-one (suc k))
-
-pub lines-next : (k : ℕ) (s : List ℕ) → linesAfter (suc k) s ≡ restOf (linesAfter k s)
-unfolding linesAfter
-lines-next zero s = refl
-lines-next (suc k) s = lines-next k (restOf s)
 
 -- The name of the state with place k among those whose rows start here: the first field of its line.
 abbrev pub nameInRow : (rows : List ℕ) (k : ℕ) → List ℕ

@@ -1,12 +1,9 @@
 -- Document 01, "Operations": reading a register, line by line from the top.
 -- Each definition takes what is left of the bytes.
 -- Assumes nothing.
-use mathlib.Core.Path.{_≡_, refl}
 use mathlib.Core.Bool.{cond}
 use mathlib.Core.List.{List}
-use Prim.Native.Nat.{ℕ, zero, suc, _+_, _<_, _≤_}
-use native.Mathlib.Omega.{arith}
-use borrow.Author.Tests.{eq-eqb, ne-eqb}
+use Prim.Native.Nat.{ℕ, zero, suc, _+_}
 use lib.Dec.{ltb, eqb}
 use lib.ListN.{length, set, replicate}
 use Rattle.apportionment.specs.Limits.{stateLimit, registerLimit}
@@ -65,27 +62,6 @@ statesFrom head first (suc left) k sum populations s =
     let p = numberAt s in
     let next = statesFrom head first left (k + 1) (sum + p) (set populations k p) (restOf s) in
     cond (eqb refusal accepted) next (refused refusal (k + 2))
-
-pub states-none : (head : Head) (first : List ℕ) (left k sum : ℕ) (populations s : List ℕ) → left ≤ 0
-    → statesFrom head first left k sum populations s ≡ closingOf head sum populations s
-unfolding statesFrom
-states-none head first zero k sum populations s none = refl
-states-none head first (suc left) k sum populations s none = absurd (omega arith)
-
-pub states-refused : (head : Head) (first : List ℕ) (left k sum : ℕ) (populations s : List ℕ) → 0 < left
-    → (stateRefusal first k sum s ≡ accepted → ⊥)
-    → statesFrom head first left k sum populations s ≡ refused (stateRefusal first k sum s) (k + 2)
-unfolding statesFrom
-states-refused head first zero k sum populations s some bad = absurd (omega arith)
-states-refused head first (suc left) k sum populations s some bad = rw (ne-eqb (stateRefusal first k sum s) accepted bad)
-
-pub states-passed : (head : Head) (first : List ℕ) (left next k sum : ℕ) (populations s : List ℕ) → left ≡ suc next
-    → stateRefusal first k sum s ≡ accepted
-    → statesFrom head first left k sum populations s
-    ≡ statesFrom head first next (k + 1) (sum + numberAt s) (set populations k (numberAt s)) (restOf s)
-unfolding statesFrom
-states-passed head first left next k sum populations s one good =
-    rw (one, eq-eqb (stateRefusal first k sum s) accepted good)
 
 -- Every line after the head.
 unfoldable pub statesOf : Head → List ℕ → Reading

@@ -4,11 +4,11 @@ ghost use mathlib.Core.Path.{_≡_};
 ghost use Prim.Native.Nat.{_*_, _/_, _^_, _≤_, _<_, min, max};
 ghost use lib.ListN.{length};
 ghost use Rattle.apportionment.specs.Remainders.{remainderSeats};
-ghost use Rattle.remainders.specs.WholeParts.{Given};
-ghost use Rattle.remainders.specs.Standing.{standingOf, withExtra};
-ghost use Rattle.remainders.specs.Bar.{reaching, extraBy, spareAfter};
-ghost use Rattle.remainders.specs.Search.{NotBelow, NotAbove, DrawnUp, DrawnDown, HoldsBar, Narrower, Searchable, BarFound};
-ghost use Rattle.remainders.specs.Seats.{Filled, HasRoom, RoomFrom, ServedTo, servedFrom, served};
+ghost use Rattle.remainders.specs.inner.WholeParts.{Given};
+ghost use Rattle.remainders.specs.inner.Standing.{standingOf, withExtra};
+ghost use Rattle.remainders.specs.inner.Bar.{reaching, extraBy, spareAfter};
+ghost use Rattle.remainders.specs.inner.Search.{NotBelow, NotAbove, DrawnUp, DrawnDown, HoldsBar, Narrower, Searchable, BarFound};
+ghost use Rattle.remainders.specs.inner.Seats.{Filled, HasRoom, RoomFrom, ServedTo, servedFrom, served};
 
 // The number by which a state of this population and whole part stands for a seat that is left, the larger first: its remainder. This
 // function alone says what a standing is; the search for the bar compares standings and knows nothing else of them.

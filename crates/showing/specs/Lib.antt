@@ -1,3 +1,3 @@
 -- The text of leximin's work: its lines and its blocks.
 pub mod Work
-pub mod Room
+pub mod inner

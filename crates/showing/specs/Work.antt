@@ -3,17 +3,12 @@
 -- A line is laid out in the order in which it is written. P is the sum of the populations, H the house; departures are measured against
 -- P / H throughout. A state's name stands on its line of the register; `rows` is the register from the first state's line on.
 -- Assumes nothing.
-use mathlib.Core.Path.{_≡_, refl}
 use mathlib.Core.Bool.{Bool, cond}
 use mathlib.Core.List.{List, [], _++_}
 use mathlib.Core.Option.{Option·elim}
-use Prim.Native.Nat.{ℕ, zero, suc, _+_, _-_, _<_, _≤_, min}
-use native.Mathlib.Numerals.{add-one}
-use native.Mathlib.Omega.{arith}
-use borrow.Author.Tests.{eq-eqb, ne-eqb}
+use Prim.Native.Nat.{ℕ, zero, suc, _+_, _-_, min}
 use lib.Dec.{ltb, eqb}
 use lib.ListN.{length, getD, take}
-use lib.Seq.{length-take-le}
 use Rattle.apportionment.specs.Limits.{stateLimit}
 use Rattle.apportionment.specs.Text.{bytesOf, decimal}
 use Rattle.apportionment.specs.Quantities.{shownText}
@@ -44,12 +39,6 @@ stateLines word rows ps seats P H zero = []
 stateLines word rows ps seats P H (suc k) =
     stateLines word rows ps seats P H k ++ stateLine word (nameInRow rows k) (getD ps k 0) (getD seats k 0) P H
 
-pub state-lines-more : (word rows ps seats : List ℕ) (P H k : ℕ)
-    → stateLines word rows ps seats P H (k + 1)
-    ≡ stateLines word rows ps seats P H k ++ stateLine word (nameInRow rows k) (getD ps k 0) (getD seats k 0) P H
-unfolding stateLines
-state-lines-more word rows ps seats P H k = rw add-one
-
 -- ---- what is weighed before a step
 
 -- A state with a seats beside the same state with b: name, both seat counts, both departures.
@@ -77,12 +66,6 @@ weighedLines step adds rows ps seats P H zero = []
 weighedLines step adds rows ps seats P H (suc k) =
     weighedLines step adds rows ps seats P H k ++ weighedAt step adds rows ps seats P H k
 
-pub weighed-lines-more : (step : ℕ) (adds : Bool) (rows ps seats : List ℕ) (P H k : ℕ)
-    → weighedLines step adds rows ps seats P H (k + 1)
-    ≡ weighedLines step adds rows ps seats P H k ++ weighedAt step adds rows ps seats P H k
-unfolding weighedLines
-weighed-lines-more step adds rows ps seats P H k = rw add-one
-
 -- ---- a step
 
 -- What a state does that goes from a seats to b.
@@ -103,34 +86,11 @@ differenceFrom xs ys (suc left) i = cond (eqb (getD xs i 0) (getD ys i 0)) (diff
 unfoldable pub firstDifference : (xs ys : List ℕ) → ℕ
 firstDifference xs ys = differenceFrom xs ys (length xs) 0
 
-pub difference-none : (xs ys : List ℕ) (left i : ℕ) → left ≤ 0 → differenceFrom xs ys left i ≡ i
-unfolding differenceFrom
-difference-none xs ys zero i none = refl
-difference-none xs ys (suc left) i none = absurd (omega arith)
-
-pub difference-here : (xs ys : List ℕ) (left i : ℕ) → 0 < left → (getD xs i 0 ≡ getD ys i 0 → ⊥) → differenceFrom xs ys left i ≡ i
-unfolding differenceFrom
-difference-here xs ys zero i some differ = absurd (omega arith)
-difference-here xs ys (suc left) i some differ = rw (ne-eqb (getD xs i 0) (getD ys i 0) differ)
-
-pub difference-later : (xs ys : List ℕ) (left next i : ℕ) → left ≡ suc next → getD xs i 0 ≡ getD ys i 0
-    → differenceFrom xs ys left i ≡ differenceFrom xs ys next (i + 1)
-unfolding differenceFrom
-difference-later xs ys left next i one same = rw (one, eq-eqb (getD xs i 0) (getD ys i 0) same)
-
 -- ---- the blocks
 
 -- The states that a placing holds: as many as it says, and no more than it has places for. Opening and stepping never say more.
 unfoldable pub statesIn : Placing → ℕ
 statesIn p = min (p .states) stateLimit
-
--- So a list with a place for each state that there may be has one for each of these.
-pub states-fit : (p : Placing) {n : ℕ} (xs : List ℕ) → n ≡ statesIn p → length xs ≡ stateLimit → n ≤ length xs
-unfolding statesIn
-states-fit p xs counted full = omega arith
-
-pub states-taken : (p : Placing) {n : ℕ} (xs : List ℕ) → n ≡ statesIn p → length xs ≡ stateLimit → length (take n xs) ≡ n
-states-taken p {n} xs counted full = length-take-le n xs (states-fit p xs counted full)
 
 -- Their populations and seats.
 unfoldable pub populationsIn : Placing → List ℕ

@@ -1,2 +1,2 @@
 -- What is known of the placings that the program shows.
-pub mod Way
+pub mod inner

@@ -9,8 +9,8 @@ use register::rows;
 use showing::PAGE_ROOM;
 ghost use mathlib.Core.Path.{_≡_};
 ghost use mathlib.Core.Bool.{true};
-ghost use Rattle.showing.specs.Room.{Showable};
-ghost use Rattle.work.specs.Way.{Begun, onTheWay, wayOf};
+ghost use Rattle.showing.specs.inner.Room.{Showable};
+ghost use Rattle.work.specs.inner.Way.{Begun, onTheWay, wayOf};
 
 // Room for the line of a refusal.
 const REFUSAL_ROOM: usize = 64;

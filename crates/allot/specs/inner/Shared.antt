@@ -19,7 +19,7 @@ use Rattle.claims.specs.inner.DivisorSeats.{claims-met-standing, claims-met-sum
 use Rattle.claims.specs.inner.SizeClaims.{Sound}
 use Rattle.claims.specs.inner.LeximinSteps.{moved-standing, moved-total, last-step-leximin, total-at-gap}
 use Rattle.problem.specs.inner.Passed.{Passed, AllotPassed}
-use Rattle.remainders.specs.House.{seats-sum-to-house}
+use Rattle.remainders.specs.inner.House.{seats-sum-to-house}
 
 -- So many seats for so many states.
 pub record Shared (n H : ℕ) (seats : List ℕ) : Type 0 where

@@ -3,7 +3,7 @@
 use mathlib.Core.Path.{_∙_}
 use borrow.Author.Needs.{needs}
 use Rattle.desk.proofs.desk_departure.Statement.{statement}
-use Rattle.desk.specs.Exported.{answer-exported}
+use Rattle.desk.specs.inner.Exported.{answer-exported}
 use Rattle.desk.proofs.desk_departure.Tie as tie
 
 departure-of-requires : tie.Need-departure-of-requires

@@ -5,7 +5,8 @@ use borrow.Author.Tests.{eq-eqb, ne-eqb}
 use Rattle.register.specs.Names.{rowsOf}
 use Rattle.register.specs.inner.Rows.{name-of-first}
 use Rattle.desk.proofs.desk_name.Statement.{statement}
-use Rattle.desk.specs.Part.{partIf, partOf, stateLine, line-shorter}
+use Rattle.desk.specs.Part.{partIf, partOf, stateLine}
+use Rattle.desk.specs.inner.Part.{line-shorter}
 use Rattle.desk.proofs.desk_name.Tie as tie
 
 name-refusal-requires : tie.Need-name-refusal-requires

@@ -4,7 +4,8 @@ use mir.Syntax.{w64}
 use mir.ValLaws.{toZ-ofZ}
 use borrow.Author.Needs.{needs}
 use Rattle.departure.specs.Answer.{markIn, numberOf, shownIn}
-use Rattle.desk.specs.Exported.{exportedAnswer, exportedShown}
+use Rattle.desk.specs.inner.Exported.{exportedAnswer}
+use Rattle.desk.specs.Exported.{exportedShown}
 use Rattle.desk.specs.Numbers.{markNumber}
 use Rattle.desk.proofs.exported_answer.Statement.{statement}
 use Rattle.desk.proofs.exported_answer.Tie as tie

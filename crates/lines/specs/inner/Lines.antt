@@ -16,7 +16,7 @@ use Rattle.apportionment.specs.Text.{bytesOf}
 use Rattle.apportionment.specs.declared.Method.{Method}
 use Rattle.fields.specs.declared.Named.{Named}
 use Rattle.fields.specs.declared.Named.the-variants.{Known, Unknown}
-use Rattle.fields.specs.Tests.{both}
+use Rattle.fields.specs.inner.Tests.{both}
 use Rattle.fields.specs.Grammar.{ended, lineOf, fieldOf, isNumber, valueOf, isName, isMethodField, methodNamed}
 use Rattle.lines.specs.Lines.{methodField, houseField, countField, headFormed, isHead, isUnknown, methodIn}
 use Rattle.lines.specs.Lines.{headRefusal, headRefused, headRead, headOf}

@@ -7,8 +7,8 @@ use lib.Seq.{length-take-le}
 use Rattle.register.specs.Names.{nameInRow}
 use Rattle.text.specs.inner.Writing.{AtFront, wrote-front}
 use Rattle.listing.specs.Listing.{listingIn}
-use Rattle.listing.specs.Room.{listing-has-room}
-use Rattle.listing.specs.Listed.{copied-over, too-long}
+use Rattle.listing.specs.inner.Room.{listing-has-room}
+use Rattle.listing.specs.inner.Listed.{copied-over, too-long}
 use borrow.Author.Needs.{needs}
 use Rattle.listing.proofs.hand_over.Statement.{statement}
 use Rattle.listing.proofs.hand_over.Tie as tie

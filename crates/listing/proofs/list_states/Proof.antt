@@ -4,7 +4,7 @@
 use mathlib.Core.Path.{sym}
 use native.Mathlib.Omega.{arith}
 use lib.Seq.{length-take-le}
-use Rattle.listing.specs.Listed.{good-sound, told-refused, told-listable, told-listed}
+use Rattle.listing.specs.inner.Listed.{good-sound, told-refused, told-listable, told-listed}
 use borrow.Author.Needs.{needs}
 use Rattle.listing.proofs.list_states.Statement.{statement}
 use Rattle.listing.proofs.list_states.Tie as tie

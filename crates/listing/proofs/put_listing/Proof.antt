@@ -6,7 +6,7 @@ use lib.Seq.{length-take-le}
 use Rattle.text.specs.inner.Writing.{wrote-on, wrote-then}
 use Rattle.problem.specs.inner.Total.{total-is-sum}
 use Rattle.listing.specs.Listing.{listingIn}
-use Rattle.listing.specs.Room.{listable-rows}
+use Rattle.listing.specs.inner.Room.{listable-rows}
 use borrow.Author.Needs.{needs}
 use Rattle.listing.proofs.put_listing.Statement.{statement}
 use Rattle.listing.proofs.put_listing.Tie as tie

@@ -2,7 +2,7 @@
 -- Assumes nothing.
 use native.Mathlib.Omega.{arith}
 use lib.ListN.{length-take}
-use Rattle.listing.specs.Listed.{GoodReading, good-sound, reading-refused}
+use Rattle.listing.specs.inner.Listed.{GoodReading, good-sound, reading-refused}
 use borrow.Author.Needs.{needs}
 use Rattle.listing.proofs.write_listing.Statement.{statement}
 use Rattle.listing.proofs.write_listing.Tie as tie

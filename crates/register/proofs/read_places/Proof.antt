@@ -10,10 +10,10 @@ use Rattle.apportionment.specs.Limits.{registerLimit}
 use Rattle.apportionment.specs.Refusals.{accepted}
 use Rattle.lines.specs.Lines.{headOf}
 use Rattle.lines.specs.inner.Lines.{head-sound}
-use Rattle.lines.specs.Places.{rest-is-end}
+use Rattle.lines.specs.inner.Places.{rest-is-end}
 use Rattle.register.specs.Register.{refused, readingOf, linesOf, statesOf}
 use Rattle.register.specs.Names.{rowsOf}
-use Rattle.register.specs.Sound.{reading-counted}
+use Rattle.register.specs.inner.Sound.{reading-counted}
 use Rattle.register.specs.inner.Rows.{Placed}
 use borrow.Author.Needs.{needs}
 use Rattle.register.proofs.read_places.Statement.{statement}

@@ -12,9 +12,10 @@ use lib.Seq.{getD-set-same, getD-set-other}
 use Rattle.apportionment.specs.Limits.{stateLimit}
 use Rattle.fields.specs.Grammar.{restOf}
 use Rattle.lines.specs.Lines.{nameAt}
-use Rattle.lines.specs.Fingerprints.{fingerprintOf}
-use Rattle.lines.specs.Places.{EndOf, drop-is-end, end-of-end, rest-is-end, name-is-front, nameOn, partOf, Stands, NamesAt, NamesKept}
-use Rattle.register.specs.Names.{linesAfter, lines-next}
+use Rattle.lines.specs.inner.Fingerprints.{fingerprintOf}
+use Rattle.lines.specs.inner.Places.{EndOf, drop-is-end, end-of-end, rest-is-end, name-is-front, nameOn, partOf, Stands, NamesAt, NamesKept}
+use Rattle.register.specs.Names.{linesAfter}
+use Rattle.register.specs.inner.Names.{lines-next}
 
 -- ---- what is left after k lines
 

@@ -7,12 +7,14 @@ use native.Mathlib.Numerals.{add-one}
 use native.Mathlib.Omega.{arith}
 use lib.ListN.{length, getD}
 use Rattle.apportionment.specs.Limits.{stateLimit}
-use Rattle.fields.specs.Grammar.{wordLimit, name-length}
+use Rattle.fields.specs.Grammar.{wordLimit}
+use Rattle.fields.specs.inner.Grammar.{name-length}
 use Rattle.apportionment.specs.Refusals.{accepted}
-use Rattle.lines.specs.Places.{FrontOf, EndOf, end-of-end, rest-is-end, name-is-front, Stands, NamesAt}
+use Rattle.lines.specs.inner.Places.{FrontOf, EndOf, end-of-end, rest-is-end, name-is-front, Stands, NamesAt}
 use Rattle.register.specs.Register.{readingOf}
-use Rattle.register.specs.Names.{rowsOf, linesAfter, lines-next, nameInRow}
-use Rattle.register.specs.Sound.{reading-named}
+use Rattle.register.specs.Names.{rowsOf, linesAfter, nameInRow}
+use Rattle.register.specs.inner.Names.{lines-next}
+use Rattle.register.specs.inner.Sound.{reading-named}
 use Rattle.register.specs.declared.Reading.{Reading}
 use Rattle.register.specs.inner.Kept.{lines-are-end, name-on-line}
 

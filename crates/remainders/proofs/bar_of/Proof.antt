@@ -3,7 +3,7 @@
 use Prim.Native.Nat.{_-_}
 use native.Mathlib.Omega.{arith}
 use borrow.Author.Needs.{needs}
-use Rattle.remainders.specs.Search.{HoldsBar, whole-holds-bar, one-number-is-bar}
+use Rattle.remainders.specs.inner.Search.{HoldsBar, whole-holds-bar, one-number-is-bar}
 use Rattle.remainders.proofs.bar_of.Statement.{statement}
 use Rattle.remainders.proofs.bar_of.Tie as tie
 

@@ -6,9 +6,9 @@ use Prim.Native.Nat.{_-_, _≤_}
 use native.Mathlib.Omega.{arith}
 use lib.ListN.{length}
 use borrow.Author.Needs.{needs}
-use Rattle.remainders.specs.Building.{count-none}
-use Rattle.remainders.specs.Standing.{reaches}
-use Rattle.remainders.specs.Search.{DrawnUp, drawn-up-on}
+use Rattle.remainders.specs.inner.Building.{count-none}
+use Rattle.remainders.specs.inner.Standing.{reaches}
+use Rattle.remainders.specs.inner.Search.{DrawnUp, drawn-up-on}
 use Rattle.remainders.proofs.drawn_up.Statement.{statement}
 use Rattle.remainders.proofs.drawn_up.Tie as tie
 

@@ -8,10 +8,10 @@ use lib.ListN.{length, getD}
 use borrow.Author.Needs.{needs}
 use Rattle.apportionment.specs.Lists.{sum, listOf}
 use Rattle.apportionment.specs.Remainders.{wholePart}
-use Rattle.remainders.specs.WholeParts.{whole-part-is, product-fits, sum-above-zero, whole-parts-within}
-use Rattle.remainders.specs.Standing.{standingOf, standingAt}
-use Rattle.remainders.specs.Building.{sum-of-one-more, FilledTo, fill-starts, fill-goes-on, fill-ends}
-use Rattle.remainders.specs.Seats.{Spans, spans-none, spans-on}
+use Rattle.remainders.specs.inner.WholeParts.{whole-part-is, product-fits, sum-above-zero, whole-parts-within}
+use Rattle.remainders.specs.inner.Standing.{standingOf, standingAt}
+use Rattle.remainders.specs.inner.Building.{sum-of-one-more, FilledTo, fill-starts, fill-goes-on, fill-ends}
+use Rattle.remainders.specs.inner.Seats.{Spans, spans-none, spans-on}
 use Rattle.remainders.proofs.fill_parts.Statement.{statement}
 use Rattle.remainders.proofs.fill_parts.Tie as tie
 

@@ -3,7 +3,7 @@
 use native.Mathlib.Omega.{arith}
 use Prim.Native.Nat.{_-_}
 use borrow.Author.Needs.{needs}
-use Rattle.remainders.specs.Search.{shares-within}
+use Rattle.remainders.specs.inner.Search.{shares-within}
 use Rattle.remainders.proofs.first_guess.Statement.{statement}
 use Rattle.remainders.proofs.first_guess.Tie as tie
 

@@ -3,7 +3,7 @@
 use mathlib.Core.Path.{ap, _∙_}
 use Prim.Native.Nat.{ℕ, _-_}
 use borrow.Author.Needs.{needs}
-use Rattle.remainders.specs.Seats.{served-is}
+use Rattle.remainders.specs.inner.Seats.{served-is}
 use Rattle.remainders.proofs.give_left.Statement.{statement}
 use Rattle.remainders.proofs.give_left.Tie as tie
 

@@ -2,7 +2,7 @@
 -- Assumes nothing.
 use native.Mathlib.Omega.{arith}
 use borrow.Author.Needs.{needs}
-use Rattle.remainders.specs.Search.{middle-holds-bar}
+use Rattle.remainders.specs.inner.Search.{middle-holds-bar}
 use Rattle.remainders.proofs.parted.Statement.{statement}
 use Rattle.remainders.proofs.parted.Tie as tie
 

@@ -7,9 +7,9 @@ use Prim.Native.Nat.{_-_, _≤_}
 use native.Mathlib.Omega.{arith}
 use lib.ListN.{length}
 use borrow.Author.Needs.{needs}
-use Rattle.remainders.specs.Building.{count-none, count-within}
-use Rattle.remainders.specs.Standing.{count-reached, count-passed-by, reaches}
-use Rattle.remainders.specs.Bar.{reaching}
+use Rattle.remainders.specs.inner.Building.{count-none, count-within}
+use Rattle.remainders.specs.inner.Standing.{count-reached, count-passed-by, reaches}
+use Rattle.remainders.specs.inner.Bar.{reaching}
 use Rattle.remainders.proofs.reaching.Statement.{statement}
 use Rattle.remainders.proofs.reaching.Tie as tie
 

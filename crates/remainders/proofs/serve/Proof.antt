@@ -2,7 +2,7 @@
 -- Assumes nothing.
 use mathlib.Core.Path.{_∙_}
 use borrow.Author.Needs.{needs}
-use Rattle.remainders.specs.Seats.{room-from, served-in-parts}
+use Rattle.remainders.specs.inner.Seats.{room-from, served-in-parts}
 use Rattle.remainders.proofs.serve.Statement.{statement}
 use Rattle.remainders.proofs.serve.Tie as tie
 

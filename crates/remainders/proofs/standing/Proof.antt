@@ -5,7 +5,7 @@ use Prim.Native.Nat.{_*_}
 use native.Mathlib.Omega.{arith}
 use native.Mathlib.Nat.{div-mul-le-self, mod-eq-sub-div-mul}
 use borrow.Author.Needs.{needs}
-use Rattle.remainders.specs.Standing.{standingOf}
+use Rattle.remainders.specs.inner.Standing.{standingOf}
 use Rattle.remainders.proofs.standing.Statement.{statement}
 use Rattle.remainders.proofs.standing.Tie as tie
 

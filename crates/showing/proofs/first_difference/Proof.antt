@@ -6,7 +6,8 @@ use native.Mathlib.Nat.{sub-zero}
 use native.Mathlib.Omega.{arith}
 use borrow.Author.Needs.{needs}
 use lib.ListN.{length}
-use Rattle.showing.specs.Work.{firstDifference, differenceFrom, difference-none, difference-here, difference-later}
+use Rattle.showing.specs.Work.{firstDifference, differenceFrom}
+use Rattle.showing.specs.inner.Work.{difference-none, difference-here, difference-later}
 use Rattle.showing.proofs.first_difference.Statement.{statement}
 use Rattle.showing.proofs.first_difference.Tie as tie
 

@@ -2,7 +2,8 @@
 -- Assumes nothing.
 use mathlib.Core.Path.{sym, _∙_}
 use borrow.Author.Needs.{needs}
-use Rattle.showing.specs.Work.{states-fit, states-taken, movedAt, seatsIn}
+use Rattle.showing.specs.inner.Work.{states-fit, states-taken}
+use Rattle.showing.specs.Work.{movedAt, seatsIn}
 use Rattle.showing.proofs.moved_at.Statement.{statement}
 use Rattle.showing.proofs.moved_at.Tie as tie
 

@@ -2,7 +2,8 @@
 -- Assumes nothing.
 use mathlib.Core.Path.{sym, _∙_}
 use borrow.Author.Needs.{needs}
-use Rattle.showing.specs.Work.{states-fit, states-taken, standText, populationsIn, seatsIn}
+use Rattle.showing.specs.inner.Work.{states-fit, states-taken}
+use Rattle.showing.specs.Work.{standText, populationsIn, seatsIn}
 use Rattle.text.specs.inner.Writing.{wrote-then}
 use Rattle.showing.proofs.put_stand.Statement.{statement}
 use Rattle.showing.proofs.put_stand.Tie as tie

@@ -3,7 +3,8 @@
 use mathlib.Core.Path.{sym, _∙_}
 use native.Mathlib.Omega.{arith}
 use borrow.Author.Needs.{needs}
-use Rattle.showing.specs.Work.{states-fit, states-taken, weighedText, populationsIn, seatsIn}
+use Rattle.showing.specs.inner.Work.{states-fit, states-taken}
+use Rattle.showing.specs.Work.{weighedText, populationsIn, seatsIn}
 use Rattle.text.specs.inner.Writing.{wrote-nothing}
 use Rattle.showing.proofs.put_weighed.Statement.{statement}
 use Rattle.showing.proofs.put_weighed.Tie as tie

@@ -3,7 +3,7 @@
 use mathlib.Core.Path.{sym}
 use lib.Seq.{length-take-le}
 use Rattle.text.specs.inner.Writing.{wrote-front}
-use Rattle.showing.specs.Room.{move-fits}
+use Rattle.showing.specs.inner.Room.{move-fits}
 use borrow.Author.Needs.{needs}
 use Rattle.work.proofs.print_move.Statement.{statement}
 use Rattle.work.proofs.print_move.Tie as tie

@@ -8,7 +8,7 @@ use mathlib.Core.Path.{_≡_}
 use Prim.Native.Nat.{_≤_, _-_}
 use native.Mathlib.Omega.{arith}
 use Rattle.apportionment.specs.Limits.{stateLimit}
-use Rattle.work.specs.Way.{onTheWay, wayOf, on-the-way-shown, short-way, step-goes-on, step-at-end}
+use Rattle.work.specs.inner.Way.{onTheWay, wayOf, on-the-way-shown, short-way, step-goes-on, step-at-end}
 use Rattle.work.proofs.print_steps.Statement.{statement}
 use Rattle.work.proofs.print_steps.Tie as tie
 

@@ -8,9 +8,9 @@ use lib.ListN.{length}
 use lib.Seq.{length-take-le}
 use Rattle.apportionment.specs.Refusals.{accepted}
 use Rattle.register.specs.Register.{readingOf}
-use Rattle.register.specs.Sound.{reading-sound}
+use Rattle.register.specs.inner.Sound.{reading-sound}
 use Rattle.register.specs.declared.Reading.{Reading}
-use Rattle.work.specs.Way.{read-begins}
+use Rattle.work.specs.inner.Way.{read-begins}
 use borrow.Author.Needs.{needs}
 use Rattle.work.proofs.show.Statement.{statement}
 use Rattle.work.proofs.show.Tie as tie

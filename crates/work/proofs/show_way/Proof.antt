@@ -1,7 +1,7 @@
 -- `work::show_way` meets its contract: the start can be shown, and so can the placing that the steps end at.
 -- Assumes nothing.
 use native.Mathlib.Nat.{le-refl}
-use Rattle.work.specs.Way.{on-the-way-shown, start-shown}
+use Rattle.work.specs.inner.Way.{on-the-way-shown, start-shown}
 use borrow.Author.Needs.{needs}
 use Rattle.work.proofs.show_way.Statement.{statement}
 use Rattle.work.proofs.show_way.Tie as tie

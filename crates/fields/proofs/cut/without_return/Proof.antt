@@ -3,7 +3,8 @@
 use mathlib.Core.Path.{sym}
 use borrow.Author.Tests.{eq-eqb, ne-eqb}
 use lib.Seq.{length-take-le}
-use Rattle.fields.specs.Grammar.{withoutReturn, lastByte, nothing-without-return}
+use Rattle.fields.specs.Grammar.{withoutReturn, lastByte}
+use Rattle.fields.specs.inner.Grammar.{nothing-without-return}
 use borrow.Author.Needs.{needs}
 use native.Mathlib.Omega.{arith}
 use Rattle.fields.proofs.cut.without_return.Statement.{statement}

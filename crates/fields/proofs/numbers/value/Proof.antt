@@ -3,7 +3,8 @@
 use mathlib.Core.Path.{_≡_, refl, sym, _∙_}
 use Prim.Native.Nat.{_-_, _^_, _<_, _≤_}
 use lib.ListN.{length, drop}
-use Rattle.fields.specs.Grammar.{digitLimit, valueFrom, valueOf, value-step, value-end, Digits, number-digits, digit-more, ten-places}
+use Rattle.fields.specs.Grammar.{digitLimit, valueFrom, valueOf}
+use Rattle.fields.specs.inner.Grammar.{value-step, value-end, Digits, number-digits, digit-more, ten-places}
 use borrow.Author.Needs.{needs}
 use native.Mathlib.Omega.{arith}
 use Rattle.fields.proofs.numbers.value.Statement.{statement}

@@ -3,7 +3,8 @@
 use mathlib.Core.Path.{_≡_, refl, sym, _∙_}
 use Prim.Native.Nat.{_-_, _≤_}
 use lib.ListN.{length, drop}
-use Rattle.fields.specs.Parts.{allBetween, between-below, between-above, between-passed, between-end}
+use Rattle.fields.specs.Parts.{allBetween}
+use Rattle.fields.specs.inner.Parts.{between-below, between-above, between-passed, between-end}
 use borrow.Author.Needs.{needs}
 use native.Mathlib.Omega.{arith}
 use Rattle.fields.proofs.parts.all_between.Statement.{statement}
@@ -32,10 +33,13 @@ shared-slice-read-if2 c = search needs
 
 returns-2 : tie.Need-returns-2 Inv-loop μ-loop
 returns-2 c =
-    let a = c .before .before .before .before .before .before .args in
-    let l = c .before .before .before .before .before .loop in
+    let at-if1 = c .before .before in
+    let at-loop = at-if1 .before .before .before in
+    let at-args = at-loop .before in
+    let a = at-args .args in
+    let l = at-loop .loop in
     sym
-    (l .inv .1 ∙ between-above (a .lo) (a .hi) (a .s .now) (l .i) (omega arith) (c .before .before .if1 .left)
+    (l .inv .1 ∙ between-above (a .lo) (a .hi) (a .s .now) (l .i) (omega arith) (at-if1 .if1 .left)
     (c .if2 .taken))
 
 add-i : tie.Need-add-i Inv-loop μ-loop
@@ -46,10 +50,13 @@ loop-less c = search needs
 
 loop-again : tie.Need-loop-again Inv-loop μ-loop
 loop-again c =
-    let a = c .before .before .before .before .before .before .args in
-    let l = c .before .before .before .before .before .loop in (
+    let at-if1 = c .before .before in
+    let at-loop = at-if1 .before .before .before in
+    let at-args = at-loop .before in
+    let a = at-args .args in
+    let l = at-loop .loop in (
       omega arith,
-      l .inv .1 ∙ between-passed (a .lo) (a .hi) (a .s .now) (l .i) (omega arith) (c .before .before .if1 .left)
+      l .inv .1 ∙ between-passed (a .lo) (a .hi) (a .s .now) (l .i) (omega arith) (at-if1 .if1 .left)
           (c .if2 .left),
     )
 

@@ -4,7 +4,7 @@ use mathlib.Core.Path.{_≡_, refl, sym, _∙_}
 use Prim.Native.Nat.{_-_, _≤_}
 use lib.ListN.{length, drop}
 use Rattle.apportionment.specs.Lists.{sameList}
-use Rattle.fields.specs.Parts.{same-differs, same-passed, same-end, same-only-at-one-length}
+use Rattle.fields.specs.inner.Parts.{same-differs, same-passed, same-end, same-only-at-one-length}
 use borrow.Author.Needs.{needs}
 use native.Mathlib.Omega.{arith}
 use Rattle.fields.proofs.parts.same.Statement.{statement}
@@ -30,8 +30,10 @@ shared-slice-read-if2-2 c = search needs
 
 returns-2 : tie.Need-returns-2 Inv-loop μ-loop
 returns-2 c =
-    let a = c .before .before .before .before .before .before .args in
-    let l = c .before .before .before .before .loop in
+    let at-loop = c .before .before .before .before in
+    let at-args = at-loop .before .before in
+    let a = at-args .args in
+    let l = at-loop .loop in
     sym (l .inv .2 ∙ same-differs (a .s .now) (a .t .now) (l .i) (omega arith) (omega arith) (c .if2 .taken))
 
 add-i : tie.Need-add-i Inv-loop μ-loop
@@ -42,8 +44,10 @@ loop-less c = search needs
 
 loop-again : tie.Need-loop-again Inv-loop μ-loop
 loop-again c =
-    let a = c .before .before .before .before .before .before .args in
-    let l = c .before .before .before .before .loop in
+    let at-loop = c .before .before .before .before in
+    let at-args = at-loop .before .before in
+    let a = at-args .args in
+    let l = at-loop .loop in
     (omega arith, omega arith, l .inv .2 ∙ same-passed (a .s .now) (a .t .now) (l .i) (omega arith) (omega arith) (c .if2 .left))
 
 returns-3 : tie.Need-returns-3 Inv-loop μ-loop

@@ -49,11 +49,15 @@ all-between-requires c κs = search needs
 returns-5 : tie.Need-returns-5
 unfolding isName within lastByte
 returns-5 c =
+    let at-if4 = c .before in
+    let at-if3 = at-if4 .before .before in
+    let at-if2 = at-if3 .before .before in
+    let at-if1 = at-if2 .before in
     simp (
-      ne-eqb _ _ (c .before .before .before .before .before .before .if1 .left),
-      le-leb _ _ (c .before .before .before .before .before .if2 .left),
-      ne-eqb _ _ (c .before .before .before .if3 .left),
-      ne-eqb _ _ (c .before .if4 .left),
+      ne-eqb _ _ (at-if1 .if1 .left),
+      le-leb _ _ (at-if2 .if2 .left),
+      ne-eqb _ _ (at-if3 .if3 .left),
+      ne-eqb _ _ (at-if4 .if4 .left),
       c .all-between .ensures,
     )
 

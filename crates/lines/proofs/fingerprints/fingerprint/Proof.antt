@@ -3,7 +3,7 @@
 use mathlib.Core.Path.{_≡_, sym, _∙_}
 use Prim.Native.Nat.{_-_, _<_, _≤_}
 use lib.ListN.{length, drop}
-use Rattle.lines.specs.Fingerprints.{fingerprintSpan, fingerprintFrom, fingerprintOf, fingerprint-step, fingerprint-end}
+use Rattle.lines.specs.inner.Fingerprints.{fingerprintSpan, fingerprintFrom, fingerprintOf, fingerprint-step, fingerprint-end}
 use borrow.Author.Needs.{needs}
 use native.Mathlib.Omega.{arith}
 use Rattle.lines.proofs.fingerprints.fingerprint.Statement.{statement}

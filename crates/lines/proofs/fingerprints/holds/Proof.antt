@@ -4,7 +4,7 @@ use mathlib.Core.Path.{_≡_, sym, _∙_}
 use mathlib.Core.Bool.{_||_}
 use Prim.Native.Nat.{_-_, _≤_}
 use lib.ListN.{length, drop}
-use Rattle.lines.specs.Fingerprints.{holds, holds-step, holds-end}
+use Rattle.lines.specs.inner.Fingerprints.{holds, holds-step, holds-end}
 use borrow.Author.Needs.{needs}
 use native.Mathlib.Omega.{arith}
 use Rattle.lines.proofs.fingerprints.holds.Statement.{statement}

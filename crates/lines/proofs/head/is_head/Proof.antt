@@ -1,7 +1,7 @@
 -- `is_head` makes the definition's tests in its order.
 -- Assumes nothing.
 use mathlib.Core.Path.{refl}
-use Rattle.fields.specs.Tests.{failed, passed}
+use Rattle.fields.specs.inner.Tests.{failed, passed}
 use Rattle.lines.specs.Lines.{headFormed}
 use borrow.Author.Needs.{needs}
 use Rattle.lines.proofs.head.is_head.Statement.{statement}
@@ -22,10 +22,13 @@ same-requires c κs = search needs
 returns-2 : tie.Need-returns-2
 unfolding headFormed
 returns-2 c =
+    let at-same = c .before in
+    let at-if1 = at-same .before .before in
+    let at-args = at-if1 .before .before .before .before .before in
     simp (
-      passed {r = c .before .before .before .before .before .before .before .before .args .ended} refl
-          (c .before .before .before .if1 .left),
-      failed (c .before .same .ensures) (c .if2 .taken),
+      passed {r = at-args .args .ended} refl
+          (at-if1 .if1 .left),
+      failed (at-same .same .ensures) (c .if2 .taken),
     )
 
 is-method-field-requires : tie.Need-is-method-field-requires
@@ -34,11 +37,16 @@ is-method-field-requires c κs = search needs
 returns-3 : tie.Need-returns-3
 unfolding headFormed
 returns-3 c =
+    let at-is-method-field = c .before in
+    let at-if2 = at-is-method-field .before in
+    let at-same = at-if2 .before in
+    let at-if1 = at-same .before .before in
+    let at-args = at-if1 .before .before .before .before .before in
     simp (
-      passed {r = c .before .before .before .before .before .before .before .before .before .before .args .ended} refl
-          (c .before .before .before .before .before .if1 .left),
-      passed (c .before .before .before .same .ensures) (c .before .before .if2 .left),
-      failed (c .before .is-method-field .ensures) (c .if3 .taken),
+      passed {r = at-args .args .ended} refl
+          (at-if1 .if1 .left),
+      passed (at-same .same .ensures) (at-if2 .if2 .left),
+      failed (at-is-method-field .is-method-field .ensures) (c .if3 .taken),
     )
 
 is-number-requires : tie.Need-is-number-requires
@@ -47,14 +55,21 @@ is-number-requires c κs = search needs
 returns-4 : tie.Need-returns-4
 unfolding headFormed
 returns-4 c =
+    let at-is-number = c .before in
+    let at-if3 = at-is-number .before in
+    let at-is-method-field = at-if3 .before in
+    let at-if2 = at-is-method-field .before in
+    let at-same = at-if2 .before in
+    let at-if1 = at-same .before .before in
+    let at-args = at-if1 .before .before .before .before .before in
     simp (
       passed
-          {r = c .before .before .before .before .before .before .before .before .before .before .before .before .args .ended}
+          {r = at-args .args .ended}
           refl
-          (c .before .before .before .before .before .before .before .if1 .left),
-      passed (c .before .before .before .before .before .same .ensures) (c .before .before .before .before .if2 .left),
-      passed (c .before .before .before .is-method-field .ensures) (c .before .before .if3 .left),
-      failed (c .before .is-number .ensures) (c .if4 .taken),
+          (at-if1 .if1 .left),
+      passed (at-same .same .ensures) (at-if2 .if2 .left),
+      passed (at-is-method-field .is-method-field .ensures) (at-if3 .if3 .left),
+      failed (at-is-number .is-number .ensures) (c .if4 .taken),
     )
 
 is-number-requires-2 : tie.Need-is-number-requires-2
@@ -63,16 +78,24 @@ is-number-requires-2 c κs = search needs
 returns-5 : tie.Need-returns-5
 unfolding headFormed
 returns-5 c =
+    let at-if4 = c .before in
+    let at-is-number = at-if4 .before in
+    let at-if3 = at-is-number .before in
+    let at-is-method-field = at-if3 .before in
+    let at-if2 = at-is-method-field .before in
+    let at-same = at-if2 .before in
+    let at-if1 = at-same .before .before in
+    let at-args = at-if1 .before .before .before .before .before in
     simp (
       passed
-          {r = c .before .before .before .before .before .before .before .before .before .before .before .before .before .args .ended}
+          {r = at-args .args .ended}
           refl
-          (c .before .before .before .before .before .before .before .before .if1 .left),
+          (at-if1 .if1 .left),
       passed
-          (c .before .before .before .before .before .before .same .ensures)
-          (c .before .before .before .before .before .if2 .left),
-      passed (c .before .before .before .before .is-method-field .ensures) (c .before .before .before .if3 .left),
-      passed (c .before .before .is-number .ensures) (c .before .if4 .left),
+          (at-same .same .ensures)
+          (at-if2 .if2 .left),
+      passed (at-is-method-field .is-method-field .ensures) (at-if3 .if3 .left),
+      passed (at-is-number .is-number .ensures) (at-if4 .if4 .left),
       c .is-number2 .ensures,
     )
 

@@ -1,60 +1,70 @@
 -- `read_head` cuts the line once. What its parts are stands first.
 -- Assumes nothing.
-use mathlib.Core.Path.{_≡_, _∙_}
-use Rattle.fields.specs.Grammar.{lineOf, fieldOf}
-use Rattle.fields.specs.Tests.{failed, passed}
+use mathlib.Core.Path.{_≡_, ap, _∙_}
+use mathlib.Core.List.{List}
+use Prim.Native.Nat.{ℕ}
+use Rattle.fields.specs.Grammar.{lineOf, fieldOf, fieldsAfter}
+use Rattle.fields.specs.inner.Tests.{failed, passed}
 use Rattle.lines.specs.Lines.{methodField, houseField, countField, isHead}
 use Rattle.lines.specs.inner.Lines.{head-numbers, head-by-parts}
 use borrow.Author.Needs.{needs}
 use Rattle.lines.proofs.head.read_head.Statement.{statement}
 use Rattle.lines.proofs.head.read_head.Tie as tie
 
-word-is : (c : tie.After-fields-from3) → c .before .before .before .before .before .before .before .field-to .result .now ≡ fieldOf (lineOf (c .before .before .before .before .before .before .before .before .before .before .before .before .args .s .now))
-word-is c =
-    c .before .before .before .before .before .before .before .field-to .ensures
-    ∙ rw (c .before .before .before .before .before .before .before .before .before .line-to .ensures)
+-- The bytes from the line on, where it is cut, and the first field.
+abbrev bytes : tie.After-fields-from3 → List ℕ
+bytes c =
+    let second = c .before .before .before .before .before in
+    let first = second .before .before .before .before .before in
+    first .before .before .args .s .now
 
-method-is : (c : tie.After-fields-from3) → c .before .before .before .before .field-to2 .result .now ≡ methodField (c .before .before .before .before .before .before .before .before .before .before .before .before .args .s .now)
+abbrev word : tie.After-fields-from3 → List ℕ
+word c =
+    let second = c .before .before .before .before .before in
+    second .before .before .field-to .result .now
+
+word-is : (c : tie.After-fields-from3) → word c ≡ fieldOf (lineOf (bytes c))
+word-is c =
+    let past = c .before .before .before .before .before in
+    let at-field-to = past .before .before in
+    let at-line-to = at-field-to .before .before in
+    at-field-to .field-to .ensures ∙ ap fieldOf (at-line-to .line-to .ensures)
+
+method-is : (c : tie.After-fields-from3) → c .before .before .before .before .field-to2 .result .now ≡ methodField (bytes c)
 unfolding methodField
 method-is c =
-    c .before .before .before .before .field-to2 .ensures
-    ∙ rw (
-      c .before .before .before .before .before .before .fields-from .ensures,
-      c .before .before .before .before .before .before .before .before .before .line-to .ensures,
-    )
+    let at-field-to2 = c .before .before .before .before in
+    let at-fields-from = at-field-to2 .before .before in
+    let at-line-to = at-fields-from .before .before .before in
+    at-field-to2 .field-to2 .ensures
+    ∙ ap fieldOf (at-fields-from .fields-from .ensures ∙ ap fieldsAfter (at-line-to .line-to .ensures))
 
-house-is : (c : tie.After-fields-from3) → c .before .field-to3 .result .now ≡ houseField (c .before .before .before .before .before .before .before .before .before .before .before .before .args .s .now)
+house-is : (c : tie.After-fields-from3) → c .before .field-to3 .result .now ≡ houseField (bytes c)
 unfolding houseField
 house-is c =
-    c .before .field-to3 .ensures
-    ∙ rw (
-      c .before .before .before .fields-from2 .ensures,
-      c .before .before .before .before .before .before .fields-from .ensures,
-      c .before .before .before .before .before .before .before .before .before .line-to .ensures,
-    )
+    let at-field-to3 = c .before in
+    let at-fields-from2 = at-field-to3 .before .before in
+    let at-fields-from = at-fields-from2 .before .before .before in
+    let at-line-to = at-fields-from .before .before .before in
+    at-field-to3 .field-to3 .ensures
+    ∙ ap fieldOf (at-fields-from2 .fields-from2 .ensures
+    ∙ ap fieldsAfter (at-fields-from .fields-from .ensures ∙ ap fieldsAfter (at-line-to .line-to .ensures)))
 
-count-is : (c : tie.After-fields-from3) → c .fields-from3 .result .now ≡ countField (c .before .before .before .before .before .before .before .before .before .before .before .before .args .s .now)
+count-is : (c : tie.After-fields-from3) → c .fields-from3 .result .now ≡ countField (bytes c)
 unfolding countField
 count-is c =
+    let at-fields-from2 = c .before .before .before in
+    let at-fields-from = at-fields-from2 .before .before .before in
+    let at-line-to = at-fields-from .before .before .before in
     c .fields-from3 .ensures
-    ∙ rw (
-      c .before .before .before .fields-from2 .ensures,
-      c .before .before .before .before .before .before .fields-from .ensures,
-      c .before .before .before .before .before .before .before .before .before .line-to .ensures,
-    )
+    ∙ ap fieldsAfter (at-fields-from2 .fields-from2 .ensures
+    ∙ ap fieldsAfter (at-fields-from .fields-from .ensures ∙ ap fieldsAfter (at-line-to .line-to .ensures)))
 
-formed : (c : tie.After-is-head) → c .is-head .result ≡ isHead (c .before .before .before .before .before .before .before .before .before .before .before .before .before .before .args .s .now)
+formed : (c : tie.After-is-head) → c .is-head .result ≡ isHead (bytes (c .before .before))
 unfolding isHead
 formed c =
-    c .is-head .ensures
-    ∙
-    (rw (
-      c .before .is-ended .ensures,
-      word-is (c .before .before),
-      method-is (c .before .before),
-      house-is (c .before .before),
-      count-is (c .before .before),
-    ))
+    let parts = c .before .before in
+    cc (c .is-head .ensures, c .before .is-ended .ensures, word-is parts, method-is parts, house-is parts, count-is parts)
 
 line-end-requires : tie.Need-line-end-requires
 line-end-requires c κs = search needs
@@ -121,16 +131,22 @@ says-requires c κs = search needs
 
 returns-2 : tie.Need-returns-2
 returns-2 c =
+    let at-value2 = c .before in
+    let at-value = at-value2 .before in
+    let at-method-named = at-value .before in
+    let at-if1 = at-method-named .before in
+    let at-past = at-if1 .before in
+    let at-past-2 = at-past .before .before in
     c .says .ensures
     ∙ simp (
       head-by-parts,
-      passed (formed (c .before .before .before .before .before)) (c .before .before .before .before .if1 .left),
-      c .before .before .before .method-named .ensures,
-      c .before .before .value .ensures,
-      c .before .value2 .ensures,
-      method-is (c .before .before .before .before .before .before .before),
-      house-is (c .before .before .before .before .before .before .before),
-      count-is (c .before .before .before .before .before .before .before),
+      passed (formed (at-past)) (at-if1 .if1 .left),
+      at-method-named .method-named .ensures,
+      at-value .value .ensures,
+      at-value2 .value2 .ensures,
+      method-is (at-past-2),
+      house-is (at-past-2),
+      count-is (at-past-2),
     )
 
 pub read-head-spec : {M : Type 1} → statement M

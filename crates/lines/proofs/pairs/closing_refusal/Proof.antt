@@ -4,7 +4,7 @@ use mathlib.Core.Path.{_≡_, sym, ap, _∙_}
 use mathlib.Core.List.{List}
 use Prim.Native.Nat.{ℕ}
 use borrow.Author.Tests.{eq-eqb, ne-eqb}
-use Rattle.fields.specs.Tests.{failed, passed}
+use Rattle.fields.specs.inner.Tests.{failed, passed}
 use Rattle.fields.specs.Grammar.{fieldOf, fieldsAfter, valueOf}
 use Rattle.lines.specs.Lines.{nameAt, numberField, numberAt, isPair, isClosingLine, closingRefusal}
 use Rattle.lines.specs.inner.Lines.{closing-number}

@@ -6,8 +6,8 @@ use Prim.Native.Nat.{ℕ, _-_, _<_, _≤_}
 use native.Mathlib.Omega.{arith}
 use borrow.Author.Count.{below-more}
 use Rattle.apportionment.specs.Lists.{sameList}
-use Rattle.lines.specs.Fingerprints.{fingerprintOf}
-use Rattle.lines.specs.Places.{nameOn, NamesKept, kept-printed, used-on, used-on-none}
+use Rattle.lines.specs.inner.Fingerprints.{fingerprintOf}
+use Rattle.lines.specs.inner.Places.{nameOn, NamesKept, kept-printed, used-on, used-on-none}
 use borrow.Author.Needs.{needs}
 use Rattle.lines.proofs.pairs.is_kept.Statement.{statement}
 use Rattle.lines.proofs.pairs.is_kept.Tie as tie

@@ -1,7 +1,7 @@
 -- `is_name_there` says no where the fingerprints differ, since then the names do, and otherwise compares the bytes.
 -- Assumes nothing.
 use mathlib.Core.Path.{sym, _∙_}
-use Rattle.lines.specs.Places.{partOf, other-fingerprint}
+use Rattle.lines.specs.inner.Places.{partOf, other-fingerprint}
 use borrow.Author.Needs.{needs}
 use Rattle.lines.proofs.pairs.is_name_there.Statement.{statement}
 use Rattle.lines.proofs.pairs.is_name_there.Tie as tie

@@ -1,7 +1,7 @@
 -- `is_pair` makes the definition's tests in its order.
 -- Assumes nothing.
 use mathlib.Core.Path.{refl}
-use Rattle.fields.specs.Tests.{failed, passed}
+use Rattle.fields.specs.inner.Tests.{failed, passed}
 use Rattle.lines.specs.Lines.{pairFormed}
 use borrow.Author.Needs.{needs}
 use Rattle.lines.proofs.pairs.is_pair.Statement.{statement}

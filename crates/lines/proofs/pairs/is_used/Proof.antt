@@ -3,8 +3,8 @@
 use mathlib.Core.Path.{sym}
 use native.Mathlib.Omega.{arith}
 use lib.Seq.{length-take-le}
-use Rattle.fields.specs.Tests.{failed}
-use Rattle.lines.specs.Places.{unused-without-fingerprint}
+use Rattle.fields.specs.inner.Tests.{failed}
+use Rattle.lines.specs.inner.Places.{unused-without-fingerprint}
 use borrow.Author.Needs.{needs}
 use Rattle.lines.proofs.pairs.is_used.Statement.{statement}
 use Rattle.lines.proofs.pairs.is_used.Tie as tie

@@ -4,11 +4,11 @@ use mathlib.Core.Path.{_≡_, sym, ap, _∙_}
 use mathlib.Core.Bool.{true}
 use mathlib.Core.List.{List}
 use Prim.Native.Nat.{ℕ}
-use Rattle.fields.specs.Tests.{failed, passed}
+use Rattle.fields.specs.inner.Tests.{failed, passed}
 use Rattle.fields.specs.Grammar.{fieldOf, fieldsAfter, isName, valueOf}
 use Rattle.lines.specs.Lines.{nameAt, numberField, numberAt, usedIn, isPair, isStateLine}
 use Rattle.lines.specs.inner.Lines.{entryRefusal, state-parts}
-use Rattle.lines.specs.Cut.{lineRefused, lineRead, line-ill-formed, line-refused, line-accepted}
+use Rattle.lines.specs.inner.Cut.{lineRefused, lineRead, line-ill-formed, line-refused, line-accepted}
 use borrow.Author.Needs.{needs}
 use Rattle.lines.proofs.pairs.read_state.Statement.{statement}
 use Rattle.lines.proofs.pairs.read_state.Tie as tie

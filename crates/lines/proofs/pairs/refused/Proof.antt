@@ -1,7 +1,7 @@
 -- A refused line is the definition's, field by field.
 -- Assumes nothing.
 use mathlib.Core.Path.{refl}
-use Rattle.lines.specs.Cut.{lineRefused}
+use Rattle.lines.specs.inner.Cut.{lineRefused}
 use Rattle.lines.proofs.pairs.refused.Statement.{statement}
 use Rattle.lines.proofs.pairs.refused.Tie as tie
 

@@ -10,7 +10,7 @@ use Rattle.register.specs.inner.Rows.{placed-at}
 use Rattle.text.specs.Writing.{Wrote}
 use Rattle.text.specs.inner.Writing.{wrote-then, wrote-length}
 use Rattle.listing.specs.Listing.{stateLines}
-use Rattle.listing.specs.Rows.{state-lines-more}
+use Rattle.listing.specs.inner.Rows.{state-lines-more}
 use borrow.Author.Needs.{needs}
 use Rattle.listing.proofs.rows.put_states.Statement.{statement}
 use Rattle.listing.proofs.rows.put_states.Tie as tie

@@ -1,6 +1,6 @@
 -- `name_placed` lends the part of the rows that the two places bound.
 -- Assumes nothing.
-use Rattle.lines.specs.Places.{partOf}
+use Rattle.lines.specs.inner.Places.{partOf}
 use borrow.Author.Needs.{needs}
 use Rattle.register.proofs.rows.name_placed.Statement.{statement}
 use Rattle.register.proofs.rows.name_placed.Tie as tie

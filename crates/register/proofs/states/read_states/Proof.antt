@@ -10,8 +10,9 @@ use Rattle.apportionment.specs.Limits.{stateLimit, sumLimit, registerLimit}
 use Rattle.apportionment.specs.Refusals.{accepted}
 use Rattle.lines.specs.Lines.{nameAt, numberAt, stateRefusal}
 use Rattle.lines.specs.inner.Lines.{StateSound, state-sound}
-use Rattle.lines.specs.Cut.{lineRead, line-refusal, line-read}
-use Rattle.register.specs.Register.{refused, noPopulations, statesFrom, statesOf, states-none, states-refused, states-passed}
+use Rattle.lines.specs.inner.Cut.{lineRead, line-refusal, line-read}
+use Rattle.register.specs.Register.{refused, noPopulations, statesFrom, statesOf}
+use Rattle.register.specs.inner.Register.{states-none, states-refused, states-passed}
 use Rattle.register.specs.inner.Kept.{Kept, kept-none, kept-end, next-fits, kept-more}
 use borrow.Author.Needs.{needs}
 use native.Mathlib.Omega.{arith}

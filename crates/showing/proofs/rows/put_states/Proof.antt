@@ -7,7 +7,8 @@ use borrow.Author.Needs.{needs}
 use lib.ListN.{length}
 use Rattle.register.specs.Names.{linesAfter}
 use Rattle.register.specs.inner.Rows.{rows-next, name-of-first}
-use Rattle.showing.specs.Work.{stateLines, state-lines-more}
+use Rattle.showing.specs.Work.{stateLines}
+use Rattle.showing.specs.inner.Work.{state-lines-more}
 use Rattle.text.specs.Writing.{Wrote}
 use Rattle.text.specs.inner.Writing.{wrote-then, wrote-length}
 use Rattle.showing.proofs.rows.put_states.Statement.{statement}
@@ -38,12 +39,15 @@ shared-slice-read-put-state c = search needs
 
 mul-put-state-2 : tie.Need-mul-put-state-2 Inv-loop μ-loop
 mul-put-state-2 c =
-    let start = c .before .before .before .before .before .before .before .before .before .before in
+    let past = c .before .before .before .before .before in
+    let start = past .before .before .before .before .before in
     omega (arith, (start .pre) .1)
 
 shared-slice-read-put-state-2 : tie.Need-shared-slice-read-put-state-2 Inv-loop μ-loop
 shared-slice-read-put-state-2 c =
-    let start = c .before .before .before .before .before .before .before .before .before .before .before in
+    let past = c .before .before .before .before .before in
+    let past-2 = past .before .before .before .before .before in
+    let start = past-2 .before in
     omega (arith, (start .pre) .1)
 
 put-state-requires : tie.Need-put-state-requires Inv-loop μ-loop
@@ -63,7 +67,8 @@ loop-again c =
     let at-put-state = c .before .before .before in
     let at-first-name = at-put-state .before .before .before in
     let at-loop = at-first-name .before .before .before in
-    let start = at-loop .before .before .before .before .before .before in (
+    let past = at-loop .before .before .before .before .before in
+    let start = past .before in (
       omega arith,
       cc (rows-next (at-loop .loop .k) (start .args .rows .now)),
       rw state-lines-more
@@ -76,7 +81,8 @@ same-length c = wrote-length (c .before .loop .inv .2)
 
 returns : tie.Need-returns Inv-loop μ-loop
 returns c =
-    let start = c .before .before .before .before .before .before .before in
+    let past = c .before .before .before .before .before in
+    let start = past .before .before in
     let all : (c .before .loop .k) ≡ length (start .args .populations .now) = omega arith in rw all at (c .before .loop .inv .2)
 
 pub put-states-spec : {M : Type 1} → statement M

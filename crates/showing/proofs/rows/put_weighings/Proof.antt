@@ -7,7 +7,8 @@ use borrow.Author.Needs.{needs}
 use lib.ListN.{length}
 use Rattle.register.specs.Names.{linesAfter}
 use Rattle.register.specs.inner.Rows.{rows-next, name-of-first}
-use Rattle.showing.specs.Work.{weighedAt, weighedLines, weighed-lines-more}
+use Rattle.showing.specs.Work.{weighedAt, weighedLines}
+use Rattle.showing.specs.inner.Work.{weighed-lines-more}
 use Rattle.text.specs.Writing.{Wrote}
 use Rattle.text.specs.inner.Writing.{wrote-then, wrote-length}
 use Rattle.showing.proofs.rows.put_weighings.Statement.{statement}
@@ -77,7 +78,8 @@ same-length c = wrote-length (c .before .loop .inv .2)
 
 returns : tie.Need-returns Inv-loop μ-loop
 returns c =
-    let start = c .before .before .before .before .before .before in
+    let past = c .before .before .before .before .before in
+    let start = past .before in
     let all : (c .before .loop .k) ≡ length (start .args .populations .now) = omega arith in rw all at (c .before .loop .inv .2)
 
 pub put-weighings-spec : {M : Type 1} → statement M

@@ -12,7 +12,7 @@ use Rattle.fields.specs.Parts.{placeOf}
 use Rattle.fields.specs.Grammar.{lineFeed}
 use Rattle.lines.specs.Lines.{nameAt, numberAt, isStateLine, usedIn, stateRefusal}
 use Rattle.lines.specs.inner.Lines.{entryRefusal, state-by-parts}
-use Rattle.lines.specs.Fingerprints.{fingerprintOf}
+use Rattle.lines.specs.inner.Fingerprints.{fingerprintOf}
 use Rattle.lines.specs.declared.pairs.StateLine.{StateLine}
 
 -- A line that is refused hands on its refusal alone.

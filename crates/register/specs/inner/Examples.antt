@@ -18,7 +18,7 @@ use Rattle.lines.specs.Lines.{methodField, houseField, countField, headFormed, 
 use Rattle.lines.specs.Lines.{isUnknown, methodIn, headRefusal, headRead}
 use Rattle.register.specs.Register.{noPopulations, refused, accepts, endOf, closingOf, statesFrom, statesOf, linesOf, readingOf}
 use Rattle.register.specs.Names.{rowsOf, linesAfter, nameInRow, nameRefusalIn, nameRefusalOf, nameOf}
-use Rattle.register.specs.Sound.{name-there}
+use Rattle.register.specs.inner.Sound.{name-there}
 use Rattle.register.specs.declared.Reading.{Reading}
 
 -- Lines that end in LF, as bytes.

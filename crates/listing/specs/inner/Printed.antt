@@ -17,8 +17,8 @@ use Rattle.text.specs.inner.Writing.{front-wrote}
 use Rattle.register.specs.Register.{readingOf}
 use Rattle.listing.specs.declared.Listed.{Listed}
 use Rattle.listing.specs.Listing.{listingOf, refused, allotRefusalIn, fittedOf, listedIn, listedOf, bufferAfter, ListingIs, printedOf}
-use Rattle.listing.specs.Room.{listingRoom}
-use Rattle.listing.specs.Listed.{listing-fits}
+use Rattle.listing.specs.inner.Room.{listingRoom}
+use Rattle.listing.specs.inner.Listed.{listing-fits}
 
 -- ---- a page with room for every listing
 

@@ -42,7 +42,7 @@ use Rattle.apportionment.specs.Allotment.{statesOutside, houseOutside, hasZero,
 use Rattle.apportionment.specs.Allotment.{problemChecks, allotRefusal, seatsOf}
 use Rattle.register.specs.Register.{readingOf}
 use Rattle.register.specs.Names.{nameOf}
-use Rattle.register.specs.Examples.{example, exampleReading, exampleName, examples-hold, example-named}
+use Rattle.register.specs.inner.Examples.{example, exampleReading, exampleName, examples-hold, example-named}
 use Rattle.register.specs.declared.Reading.{Reading}
 use Rattle.apportionment.specs.Methods.{methodText}
 use Rattle.text.specs.Shared.{numbersText, totalLine, refusalLine}
@@ -61,7 +61,7 @@ use Rattle.listing.specs.Listing.{
   listedOf,
   printedOf,
 }
-use Rattle.listing.specs.Rows.{same-listing}
+use Rattle.listing.specs.inner.Rows.{same-listing}
 
 abbrev exampleListing : List ℕ
 exampleListing =

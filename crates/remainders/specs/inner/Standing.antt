@@ -12,7 +12,7 @@ use lib.ListN.{length, getD}
 use borrow.Author.Tests.{ltb-true, ltb-false, lt-ltb, le-ltb, le-leb, lt-leb}
 use Rattle.apportionment.specs.Lists.{sum, countBelow, listOf}
 use Rattle.apportionment.specs.Remainders.{remainder, standsBefore, rank}
-use Rattle.remainders.specs.Building.{length-of, getD-of, count-one-more, count-agrees, count-splits}
+use Rattle.remainders.specs.inner.Building.{length-of, getD-of, count-one-more, count-agrees, count-splits}
 
 -- The standing of a state of population p: its remainder.
 unfoldable pub standingOf : (p P H : ℕ) → ℕ

@@ -22,13 +22,13 @@ use Rattle.text.specs.inner.Writing.{copiedOut, AtFront}
 use Rattle.register.specs.Register.{readingOf}
 use Rattle.register.specs.declared.Reading.{Reading}
 use Rattle.register.specs.Names.{rowsOf, nameInRow}
-use Rattle.register.specs.Sound.{ReadingSound, reading-sound}
+use Rattle.register.specs.inner.Sound.{ReadingSound, reading-sound}
 use Rattle.register.specs.inner.Rows.{name-limited}
 use Rattle.listing.specs.declared.Listed.{Listed}
 use Rattle.listing.specs.Listing.{populationsIn, seatsIn, listingIn, listingOf, refused, allotRefusalIn, fittedOf, listedIn, listedOf, bufferAfter, ListingIs}
-use Rattle.listing.specs.Rows.{listing-by-rows}
+use Rattle.listing.specs.inner.Rows.{listing-by-rows}
 use Rattle.allot.specs.inner.Shared.{Shared, allotment-shared}
-use Rattle.listing.specs.Room.{AllListable, listingRoom, listing-has-room}
+use Rattle.listing.specs.inner.Room.{AllListable, listingRoom, listing-has-room}
 
 -- ---- what is not refused may be listed
 

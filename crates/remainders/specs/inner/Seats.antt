@@ -12,27 +12,11 @@ use borrow.Author.Tests.{ltb-true, ltb-false, lt-ltb, le-ltb, eqb-true, eqb-fals
 use Rattle.apportionment.specs.Lists.{sum, listOf}
 use Rattle.apportionment.specs.Remainders.{wholePart, seatsLeft, remainderSeatsAt, remainderSeats}
 use Rattle.problem.specs.inner.Passed.{Passed}
-use Rattle.remainders.specs.Building.{length-of, getD-of, is-list-of, list-of-agrees, sum-of-one-more, FilledTo}
-use Rattle.remainders.specs.WholeParts.{wholeParts, whole-parts-within, left-within-states}
-use Rattle.remainders.specs.Standing.{
-  standingAt,
-  standingsOf,
-  extraIn,
-  rank-is,
-  withExtraAt,
-  withExtra,
-}
-use Rattle.remainders.specs.Bar.{
-  all-reach,
-  none-above,
-  Bar,
-  extraBy,
-  spareAt,
-  no-more-to-spare,
-  spareFor,
-  served-by-rank,
-}
-use Rattle.remainders.specs.Search.{Searchable}
+use Rattle.remainders.specs.inner.Building.{length-of, getD-of, is-list-of, list-of-agrees, sum-of-one-more, FilledTo}
+use Rattle.remainders.specs.inner.WholeParts.{wholeParts, whole-parts-within, left-within-states}
+use Rattle.remainders.specs.inner.Standing.{standingAt, standingsOf, extraIn, rank-is, withExtraAt, withExtra}
+use Rattle.remainders.specs.inner.Bar.{all-reach, none-above, Bar, extraBy, spareAt, no-more-to-spare, spareFor, served-by-rank}
+use Rattle.remainders.specs.inner.Search.{Searchable}
 use Rattle.remainders.specs.declared.Parts.{Parts}
 
 -- ---- the whole parts and the standings

@@ -18,7 +18,7 @@ use Rattle.apportionment.specs.inner.Lists.{same-list-equal}
 use Rattle.fields.specs.Parts.{placeOf, before, after}
 use Rattle.fields.specs.Grammar.{lineFeed, comma, restOf, lineOf, lastByte, carriageReturn, withoutReturn, fieldOf}
 use Rattle.lines.specs.Lines.{nameAt, usedIn}
-use Rattle.lines.specs.Fingerprints.{fingerprintOf, holds, holds-not}
+use Rattle.lines.specs.inner.Fingerprints.{fingerprintOf, holds, holds-not}
 
 -- ---- a name is the front of its line
 

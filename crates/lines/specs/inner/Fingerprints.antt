@@ -9,7 +9,7 @@ use native.Mathlib.Omega.{arith}
 use borrow.Author.Tests.{eqb-false}
 use lib.Dec.{eqb}
 use lib.ListN.{length, getD, drop, drop-of-length-le}
-use Rattle.fields.specs.Parts.{drop-step}
+use Rattle.fields.specs.inner.Parts.{drop-step}
 
 -- ---- the fingerprint of a name
 

@@ -25,7 +25,7 @@ use Rattle.problem.specs.inner.Passed.{OpenPassed, open-passed}
 use Rattle.leximin.specs.inner.Start.{ready-sound}
 use Rattle.register.specs.Register.{readingOf}
 use Rattle.register.specs.Names.{rowsOf, nameInRow}
-use Rattle.register.specs.Sound.{ReadingSound, reading-sound}
+use Rattle.register.specs.inner.Sound.{ReadingSound, reading-sound}
 use Rattle.register.specs.inner.Rows.{nameLimit, name-limited}
 use Rattle.register.specs.declared.Reading.{Reading}
 use Rattle.placing.specs.Placing.{padded, started, placingAt, openedOf, steppedOf, refusedWith, peopleOf}
@@ -35,7 +35,7 @@ use Rattle.placing.specs.inner.Walk.{start-is-first, step-before-house, step-at
 use Rattle.placing.specs.declared.Placing.{Placing}
 use Rattle.placing.specs.declared.Placed.{Placed}
 use Rattle.showing.specs.Work.{statesIn}
-use Rattle.showing.specs.Room.{Showable, seatsLimit}
+use Rattle.showing.specs.inner.Room.{Showable, seatsLimit}
 
 -- ---- the way
 

@@ -10,11 +10,11 @@ use lib.ListN.{length, getD}
 use Rattle.apportionment.specs.Lists.{sum, listOf}
 use Rattle.apportionment.specs.Remainders.{wholePart, seatsLeft, remainderSeats}
 use Rattle.problem.specs.inner.Passed.{Passed}
-use Rattle.remainders.specs.Building.{list-of-places, length-of, sum-of-none, sum-of-one-more, sum-of-both, count-none}
-use Rattle.remainders.specs.WholeParts.{wholeParts, whole-parts-within, left-within-states}
-use Rattle.remainders.specs.Standing.{standingAt, standingsOf, extraIn, reaches}
-use Rattle.remainders.specs.Bar.{reaching, Bar, bar-exists, spareAt, spareFor, spare-is, one-more-served, served-by-rank}
-use Rattle.remainders.specs.Seats.{parts-are-allotted}
+use Rattle.remainders.specs.inner.Building.{list-of-places, length-of, sum-of-none, sum-of-one-more, sum-of-both, count-none}
+use Rattle.remainders.specs.inner.WholeParts.{wholeParts, whole-parts-within, left-within-states}
+use Rattle.remainders.specs.inner.Standing.{standingAt, standingsOf, extraIn, reaches}
+use Rattle.remainders.specs.inner.Bar.{reaching, Bar, bar-exists, spareAt, spareFor, spare-is, one-more-served, served-by-rank}
+use Rattle.remainders.specs.inner.Seats.{parts-are-allotted}
 
 -- ---- as many seats go out as are left
 

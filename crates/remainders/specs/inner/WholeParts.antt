@@ -22,7 +22,7 @@ use Rattle.apportionment.specs.Lists.{sum, listOf}
 use Rattle.apportionment.specs.inner.Lists.{entry-at-most-sum}
 use Rattle.apportionment.specs.Remainders.{wholePart, seatsLeft}
 use Rattle.problem.specs.inner.Passed.{Passed}
-use Rattle.remainders.specs.Building.{list-of-places, sum-of-places, sum-of-scaled, sum-of-both, sum-of-ones}
+use Rattle.remainders.specs.inner.Building.{list-of-places, sum-of-places, sum-of-scaled, sum-of-both, sum-of-ones}
 
 -- What the functions of this crate are given: populations and a house that passed the checks, their sum, and a list to fill.
 pub record Given (ps : List ℕ) (P H : ℕ) (room : List ℕ) : Type 0 where

@@ -16,7 +16,8 @@ use Rattle.apportionment.specs.Lists.{sum}
 use Rattle.fields.specs.Grammar.{restOf, isName}
 use Rattle.lines.specs.inner.Lines.{head-sound, state-sound}
 use Rattle.lines.specs.Lines.{headOf, nameAt, numberAt, stateRefusal, closingRefusal}
-use Rattle.register.specs.Register.{noPopulations, refused, accepts, endOf, closingOf, statesFrom, states-passed, statesOf, linesOf, readingOf}
+use Rattle.register.specs.Register.{noPopulations, refused, accepts, endOf, closingOf, statesFrom, statesOf, linesOf, readingOf}
+use Rattle.register.specs.inner.Register.{states-passed}
 use Rattle.register.specs.Names.{linesAfter, nameRefusalIn, nameRefusalOf, nameOf}
 use Rattle.lines.specs.declared.head.Head.{Head}
 use Rattle.register.specs.declared.Reading.{Reading}

@@ -9,7 +9,7 @@ use lib.ListN.{length, getD}
 use Rattle.apportionment.specs.Refusals.{accepted}
 use Rattle.register.specs.Register.{readingOf}
 use Rattle.register.specs.Names.{rowsOf, nameInRow, nameOf}
-use Rattle.register.specs.Sound.{name-there}
+use Rattle.register.specs.inner.Sound.{name-there}
 use Rattle.register.specs.declared.Reading.{Reading}
 use Rattle.departure.specs.inner.Answer.{InLimits}
 use Rattle.listing.specs.Listing.{stateLine, stateLines, populationsIn, seatsIn, listingIn, listingOf}

@@ -14,8 +14,8 @@ use lib.ListN.{length, getD}
 use borrow.Author.Tests.{ltb-true, ltb-false, leb-true, leb-false, lt-ltb, le-ltb, eq-eqb, ne-eqb}
 use Rattle.apportionment.specs.Lists.{sum, countBelow}
 use Rattle.apportionment.specs.inner.Lists.{entry-at-most-sum}
-use Rattle.remainders.specs.Building.{count-none}
-use Rattle.remainders.specs.Standing.{rankIn, extraIn, reaches, count-reached, count-passed-by, rank-in-parts}
+use Rattle.remainders.specs.inner.Building.{count-none}
+use Rattle.remainders.specs.inner.Standing.{rankIn, extraIn, reaches, count-reached, count-passed-by, rank-in-parts}
 
 -- How many of the first k states reach a standing.
 abbrev pub reaching : (xs : List ℕ) (least k : ℕ) → ℕ

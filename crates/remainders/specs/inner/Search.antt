@@ -8,7 +8,7 @@ use Prim.Native.Nat.{ℕ, _+_, _-_, _*_, _/_, _≤_, _<_, min, max}
 use native.Mathlib.Omega.{arith}
 use native.Mathlib.Nat.{mul-le-mul, div-mul-le-self, le-trans}
 use lib.ListN.{length, getD}
-use Rattle.remainders.specs.Bar.{reaching, Counted, counted, falls, Bar, just-as-many}
+use Rattle.remainders.specs.inner.Bar.{reaching, Counted, counted, falls, Bar, just-as-many}
 use Rattle.remainders.specs.declared.Range.{Range}
 
 -- ---- an end drawn in

@@ -18,7 +18,7 @@ use Rattle.text.specs.inner.ShownRoom.{shown-room}
 use Rattle.register.specs.declared.Reading.{Reading}
 use Rattle.departure.specs.inner.Answer.{InLimits}
 use Rattle.listing.specs.Listing.{headLine, departureText, stateLine, stateLines, populationsIn, listingIn}
-use Rattle.listing.specs.Rows.{Rows}
+use Rattle.listing.specs.inner.Rows.{Rows}
 
 -- The room that each kind of line takes: its fields at their longest, its commas and its line end.
 --   head: the word and the method 10 each, the house 4, the number of states 3;

@@ -1,0 +1,4 @@
+-- What inner contracts say, and the laws that proofs cite: nothing here has to be believed.
+pub mod Tests
+pub mod Parts
+pub mod Grammar
