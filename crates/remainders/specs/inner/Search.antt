@@ -1,5 +1,5 @@
 -- The search for the bar: a range of standings that holds it is parted until one number is left. An end of the range is drawn in where no
--- state stands between, which changes no count; so equal standings do not keep the ends apart.
+-- state stands between, which changes no count; so equal standings do not keep the ends apart. `parted` and `bar_of` cite it.
 -- Assumes nothing.
 use mathlib.Core.Path.{_≡_, sym, _∙_}
 use mathlib.Core.Logic.{_⊎_, inl, inr}

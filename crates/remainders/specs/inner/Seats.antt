@@ -1,5 +1,5 @@
 -- Whole parts with the seats that are left are the allotment of the definition, and the numbers that the code holds on the way have
--- room. `give_left` and `fill_with_room` cite it.
+-- room. The functions that fill and serve cite it.
 -- Assumes nothing.
 use mathlib.Core.Path.{_≡_, refl, sym, ap, _∙_}
 use mathlib.Core.Bool.{Bool, true, false, cond}
