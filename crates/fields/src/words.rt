@@ -4,14 +4,16 @@ use crate::parts::all_between;
 use crate::parts::same;
 use apportionment::Method;
 ghost use mathlib.Core.Path.{_≡_};
+ghost use Rattle.fields.specs.Parts.{allBetween};
 ghost use Rattle.fields.specs.Grammar.{isName, isMethodField, methodNamed};
 
 const WORD_LIMIT: usize = 32;
 
 const BLANK: u8 = 32;
 
-// Whether a field is a name.
-pub fn is_name(f: &[u8]) -> bool
+// Whether a field is a name. Whether its bytes may stand in one was seen when the field was cut.
+pub fn is_name(f: &[u8], plain: bool) -> bool
+    requires { ⌜ plain ≡ allBetween 32 126 (now f) ⌝ }
     ensures { λ r. ⌜ r ≡ isName (now (f .entry)) ⌝ }
 {
     if f.len() == 0 {
@@ -26,7 +28,7 @@ pub fn is_name(f: &[u8]) -> bool
     if f[f.len() - 1] == BLANK {
         return false;
     }
-    all_between(f, 32, 126)
+    plain
 }
 
 // Whether a field can be a method's word.

@@ -1,6 +1,6 @@
 // A line of two fields: a state's name and population, or `total` and the sum.
-use crate::fingerprints::fingerprint;
 use crate::fingerprints::holds;
+use crate::fingerprints::read_field;
 use apportionment::SUM_LIMIT;
 use apportionment::outside;
 use apportionment::refusals;
@@ -148,15 +148,18 @@ pub fn read_state(
 {
     let end = cut::line_end(s);
     let line = cut::line_to(s, end);
-    let comma = cut::field_end(line);
-    let name = cut::field_to(line, comma);
-    let digits = cut::fields_from(line, comma);
-    if !is_pair(cut::is_ended(s, end), words::is_name(name), digits) {
+    let field = read_field(line);
+    let name = cut::field_to(line, field.end);
+    let digits = cut::fields_from(line, field.end);
+    if !is_pair(
+        cut::is_ended(s, end),
+        words::is_name(name, field.plain),
+        digits,
+    ) {
         return refused(refusals::LINE_ILL_FORMED);
     }
     let population = numbers::value(digits);
-    let print = fingerprint(name);
-    let used = is_used(k, first, prints, starts, ends, name, print);
+    let used = is_used(k, first, prints, starts, ends, name, field.print);
     let refusal = entry_refusal(used, sum, population);
     if refusal != 0 {
         return refused(refusal);
@@ -164,7 +167,7 @@ pub fn read_state(
     StateLine {
         refusal: 0,
         population,
-        print,
+        print: field.print,
         width: name.len(),
         end,
     }

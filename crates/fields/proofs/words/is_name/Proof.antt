@@ -1,4 +1,4 @@
--- `is_name` tests the length from both sides, the two ends, and then the bytes.
+-- `is_name` tests the length from both sides and the two ends; the bytes were tested before.
 -- Assumes nothing.
 use borrow.Author.Tests.{le-leb, lt-leb, eq-eqb, ne-eqb}
 use Rattle.apportionment.specs.Checks.{within}
@@ -43,22 +43,16 @@ returns-4 c =
       eq-eqb _ _ (c .if4 .taken),
     )
 
-all-between-requires : tie.Need-all-between-requires
-all-between-requires c κs = search needs
-
 returns-5 : tie.Need-returns-5
 unfolding isName within lastByte
 returns-5 c =
-    let at-if4 = c .before in
-    let at-if3 = at-if4 .before .before in
-    let at-if2 = at-if3 .before .before in
-    let at-if1 = at-if2 .before in
+    let some = c .before .before .before .before .before in
     simp (
-      ne-eqb _ _ (at-if1 .if1 .left),
-      le-leb _ _ (at-if2 .if2 .left),
-      ne-eqb _ _ (at-if3 .if3 .left),
-      ne-eqb _ _ (at-if4 .if4 .left),
-      c .all-between .ensures,
+      ne-eqb _ _ (some .if1 .left),
+      le-leb _ _ (c .before .before .before .before .if2 .left),
+      ne-eqb _ _ (c .before .before .if3 .left),
+      ne-eqb _ _ (c .if4 .left),
+      some .before .pre,
     )
 
 pub is-name-spec : {M : Type 1} → statement M
@@ -72,5 +66,4 @@ is-name-spec =
     sub-if4
     shared-slice-read-if4
     returns-4
-    all-between-requires
     returns-5)

@@ -5,9 +5,11 @@ use mathlib.Core.Bool.{true}
 use mathlib.Core.List.{List}
 use Prim.Native.Nat.{ℕ}
 use Rattle.fields.specs.inner.Tests.{failed, passed}
+use Rattle.fields.specs.Parts.{allBetween}
 use Rattle.fields.specs.Grammar.{fieldOf, fieldsAfter, isName, valueOf}
 use Rattle.lines.specs.Lines.{nameAt, numberField, numberAt, usedIn, isPair, isStateLine}
 use Rattle.lines.specs.inner.Lines.{entryRefusal, state-parts}
+use Rattle.lines.specs.inner.Fingerprints.{fingerprintOf, field-end, field-plain, field-print}
 use Rattle.lines.specs.inner.Cut.{lineRefused, lineRead, line-ill-formed, line-refused, line-accepted}
 use borrow.Author.Needs.{needs}
 use Rattle.lines.proofs.pairs.read_state.Statement.{statement}
@@ -28,6 +30,12 @@ name-is c = c .before .field-to .ensures ∙ ap fieldOf (c .before .before .befo
 digits-are : (c : tie.After-fields-from) → c .fields-from .result .now ≡ numberField (bytes c)
 unfolding numberField
 digits-are c = c .fields-from .ensures ∙ ap fieldsAfter (c .before .before .before .line-to .ensures)
+
+print-is : (c : tie.After-fields-from) → c .before .before .read-field .result .print ≡ fingerprintOf (c .before .field-to .result .now)
+print-is c =
+    ap (λ f. f .print) (c .before .before .read-field .ensures)
+    ∙ field-print _
+    ∙ ap fingerprintOf (sym (c .before .field-to .ensures))
 
 formed : (c : tie.After-is-pair) → c .is-pair .result ≡ isStateLine (bytes (c .before .before .before))
 unfolding isStateLine isPair
@@ -55,9 +63,9 @@ refusal-at c =
     let a = start (cut c .before .before .before .before .before) .args in
     entryRefusal (usedIn (a .k) (a .first .now) (nameAt (a .s .now))) (a .sum) (numberAt (a .s .now))
 
-refusal-is : (c : tie.After-entry-refusal) → c .entry-refusal .result ≡ refusal-at (c .before .before .before)
+refusal-is : (c : tie.After-entry-refusal) → c .entry-refusal .result ≡ refusal-at (c .before .before)
 refusal-is c =
-    let value = c .before .before .before in
+    let value = c .before .before in
     cc (c .entry-refusal .ensures, c .before .is-used .ensures, name-is (cut value), population-is value)
 
 line-end-requires : tie.Need-line-end-requires
@@ -66,20 +74,24 @@ line-end-requires c κs = search needs
 line-to-requires : tie.Need-line-to-requires
 line-to-requires c κs = search needs
 
-field-end-requires : tie.Need-field-end-requires
-field-end-requires c κs = search needs
+read-field-requires : tie.Need-read-field-requires
+read-field-requires c κs = search needs
 
 field-to-requires : tie.Need-field-to-requires
-field-to-requires c κs = search needs
+field-to-requires c κs = ap (λ f. f .end) (c .read-field .ensures) ∙ field-end _
 
 fields-from-requires : tie.Need-fields-from-requires
-fields-from-requires c κs = search needs
+fields-from-requires c κs = ap (λ f. f .end) (c .before .read-field .ensures) ∙ field-end _
 
 is-ended-requires : tie.Need-is-ended-requires
 is-ended-requires c κs = search needs
 
 is-name-requires : tie.Need-is-name-requires
-is-name-requires c κs = search needs
+is-name-requires c κs =
+    let name = c .before .before in
+    ap (λ f. f .plain) (name .before .read-field .ensures)
+    ∙ field-plain _
+    ∙ ap (allBetween 32 126) (sym (name .field-to .ensures))
 
 is-pair-requires : tie.Need-is-pair-requires
 is-pair-requires c κs = search needs
@@ -95,15 +107,12 @@ value-requires : tie.Need-value-requires
 value-requires c κs =
     rw (digits-are (c .before .before .before .before)) (state-parts _ (passed (formed (c .before)) (c .if1 .left)) .1)
 
-fingerprint-requires : tie.Need-fingerprint-requires
-fingerprint-requires c κs = search needs
-
 is-used-requires : tie.Need-is-used-requires
 is-used-requires c κs =
-    (start (cut (c .before) .before .before .before .before .before) .pre .1, c .fingerprint .ensures)
+    (start (cut c .before .before .before .before .before) .pre .1, print-is (cut c))
 
 entry-refusal-requires : tie.Need-entry-refusal-requires
-entry-refusal-requires c κs = start (cut (c .before .before) .before .before .before .before .before) .pre .0
+entry-refusal-requires c κs = start (cut (c .before) .before .before .before .before .before) .pre .0
 
 refused-requires-2 : tie.Need-refused-requires-2
 refused-requires-2 c κs = search needs
@@ -117,16 +126,16 @@ returns-2 c =
     c .refused2 .ensures
     ∙ ap lineRefused (refusal-is (c .before .before))
     ∙ sym
-    (line-refused _ _ _ _ (formed-there (c .before .before .before .before .before))
+    (line-refused _ _ _ _ (formed-there (c .before .before .before .before))
     (λ good. c .before .if2 .taken (refusal-is (c .before .before) ∙ good)))
 
 returns-3 : tie.Need-returns-3
 unfolding lineRead
 returns-3 c =
-    let value = c .before .before .before .before in
+    let value = c .before .before .before in
     cc (
       population-is value,
-      c .before .before .before .fingerprint .ensures,
+      print-is (cut value),
       name-is (cut value),
       line-accepted _ _ _ _ (formed-there value) (sym (refusal-is (c .before)) ∙ c .if2 .left),
     )
@@ -137,7 +146,7 @@ read-state-spec =
     (tie.spec
     line-end-requires
     line-to-requires
-    field-end-requires
+    read-field-requires
     field-to-requires
     fields-from-requires
     is-ended-requires
@@ -146,7 +155,6 @@ read-state-spec =
     refused-requires
     returns
     value-requires
-    fingerprint-requires
     is-used-requires
     entry-refusal-requires
     refused-requires-2
