@@ -23,7 +23,7 @@ extern "C" {
 
 /* Room for any listing: the longest head, a line for each state at its longest, and the longest
    line of totals. A buffer of so many bytes is never refused 31; the library is proved to that
-   number (crates/listing/specs/Room.antt, listingRoom). */
+   number (crates/listing/specs/inner/Room.antt, listingRoom). */
 #define DESK_LISTING_ROOM (30 + DESK_STATES_LIMIT * 64 + 22)
 
 /* The methods. */
