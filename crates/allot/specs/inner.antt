@@ -1,3 +1,3 @@
--- What inner contracts say, and the laws that proofs cite: nothing here has to be believed.
+-- What filling the seats gives, and that they add up to the house.
 pub mod Allot
 pub mod Shared

@@ -6,53 +6,12 @@ use mathlib.Core.List.{List, [], _∷_}
 use Prim.Native.Nat.{ℕ}
 use Rattle.apportionment.specs.Lists.{sum, sameList, firstPlace, countBelow, listOf}
 use Rattle.apportionment.specs.Text.{bytesOf, decimal, decimalWith}
-use Rattle.apportionment.specs.Quantities.{
-  less,
-  atMost,
-  distance,
-  sizeOf,
-  isBelow,
-  nearestWhole,
-  hundredthsOf,
-  shownOf,
-  hundredthsText,
-  shownText,
-  markOf,
-  markText,
-}
-use Rattle.apportionment.specs.Leximin.{
-  sizesOf,
-  insert,
-  largestFirst,
-  listLess,
-  moreAtFirst,
-  sizeList,
-  chosenBefore,
-  withFirst,
-  allotments,
-  firstOf,
-  firstOfAll,
-  leximinFor,
-}
-use Rattle.apportionment.specs.Divisor.{
-  signpost,
-  weightOf,
-  claimOf,
-  claimBefore,
-  firstClaim,
-  oneMore,
-  claimsMet,
-  divisorSeats,
-}
-use Rattle.apportionment.specs.Remainders.{
-  wholePart,
-  remainder,
-  standsBefore,
-  seatsLeft,
-  rank,
-  remainderSeatsAt,
-  remainderSeats,
-}
+use Rattle.apportionment.specs.Quantities.{less, atMost, distance, sizeOf, isBelow, nearestWhole, hundredthsOf, shownOf}
+use Rattle.apportionment.specs.Quantities.{hundredthsText, shownText, markOf, markText}
+use Rattle.apportionment.specs.Leximin.{sizesOf, insert, largestFirst, listLess, moreAtFirst, sizeList, chosenBefore, withFirst}
+use Rattle.apportionment.specs.Leximin.{allotments, firstOf, firstOfAll, leximinFor}
+use Rattle.apportionment.specs.Divisor.{signpost, weightOf, claimOf, claimBefore, firstClaim, oneMore, claimsMet, divisorSeats}
+use Rattle.apportionment.specs.Remainders.{wholePart, remainder, standsBefore, seatsLeft, rank, remainderSeatsAt, remainderSeats}
 use Rattle.apportionment.specs.Allotment.{seatsOf}
 use Rattle.apportionment.specs.declared.Mark.{Mark}
 use Rattle.apportionment.specs.declared.Mark.the-variants.{In, Over}

@@ -6,15 +6,8 @@ use Prim.Native.Nat.{ℕ}
 use lib.Dec.{ltb, eqb}
 use lib.ListN.{length}
 use Rattle.apportionment.specs.Limits.{stateLimit, houseLimit, sumLimit}
-use Rattle.apportionment.specs.Refusals.{
-  accepted,
-  statesOutOfLimits,
-  houseOutOfLimits,
-  populationZero,
-  sumTooLarge,
-  seatListLength,
-  houseBelowStates,
-}
+use Rattle.apportionment.specs.Refusals.{accepted, statesOutOfLimits, houseOutOfLimits, populationZero, sumTooLarge, seatListLength}
+use Rattle.apportionment.specs.Refusals.{houseBelowStates}
 use Rattle.apportionment.specs.Checks.{outside, firstRefusal}
 use Rattle.apportionment.specs.Lists.{sum}
 use Rattle.apportionment.specs.Leximin.{leximinFor, gap}

@@ -1,3 +1,3 @@
--- What inner contracts say, and the laws that proofs cite: nothing here has to be believed.
+-- Laws of the words about lists and checks.
 pub mod Lists
 pub mod Checks

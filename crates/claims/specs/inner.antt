@@ -1,4 +1,5 @@
--- What inner contracts say, and the laws that proofs cite: nothing here has to be believed.
+-- The theory of claims. A claim is a state with a seats wanting one more; seats stand where every claim met comes before every claim not
+-- met, and that alone fixes them once their total is known.
 pub mod Order
 pub mod StandingMoves
 pub mod StandingOrder

@@ -3,20 +3,8 @@
 -- Assumes nothing.
 use mathlib.Core.Path.{_≡_, sym, _∙_, ap}
 use Prim.Native.Nat.{ℕ, _+_, _-_, _*_, _/_, _%_, _^_, _<_, _≤_}
-use native.Mathlib.Nat.{
-  add-le-add,
-  add-mul,
-  mul-add,
-  mul-assoc,
-  mul-comm,
-  mul-left-comm,
-  mod-lt,
-  div-add-mod',
-  div-eq-of-lt-le,
-  div-le-of-le-mul,
-  le-of-lt,
-  mul-le-mul-right,
-}
+use native.Mathlib.Nat.{add-le-add, add-mul, mul-add, mul-assoc, mul-comm, mul-left-comm, mod-lt, div-add-mod', div-eq-of-lt-le}
+use native.Mathlib.Nat.{div-le-of-le-mul, le-of-lt, mul-le-mul-right}
 use native.Mathlib.Omega.{arith}
 use Rattle.apportionment.specs.Limits.{houseLimit}
 use Rattle.apportionment.specs.Quantities.{Fraction, hundredthsOf, nearestWhole}

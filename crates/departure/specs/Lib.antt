@@ -1,3 +1,3 @@
--- What an exact departure is, what the departure operation answers, and what is shown at the edges.
+-- What the departure operation answers.
 pub mod Answer
 pub mod inner

@@ -1,4 +1,4 @@
--- What inner contracts say, and the laws that proofs cite: nothing here has to be believed.
+-- Exact departures, the laws of the departure operation, and what is shown at the edges.
 pub mod Exact
 pub mod Answer
 pub mod Edges

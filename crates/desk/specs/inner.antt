@@ -1,4 +1,4 @@
--- What inner contracts say, and the laws that proofs cite: nothing here has to be believed.
+-- That what the C interface hands back is what the operations do.
 pub mod Numbers
 pub mod Exported
 pub mod Allotting

@@ -1,4 +1,4 @@
--- What inner contracts say, and the laws that proofs cite: nothing here has to be believed.
+-- The divisor methods in machine words: rounded seats, moves, and that they come to the method's allotment.
 pub mod Moves
 pub mod Rounding
 pub mod Steps

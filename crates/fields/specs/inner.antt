@@ -1,4 +1,4 @@
--- What inner contracts say, and the laws that proofs cite: nothing here has to be believed.
+-- Laws of the grammar, one step and the end of each loop, and of tests made one after the other.
 pub mod Tests
 pub mod Parts
 pub mod Grammar

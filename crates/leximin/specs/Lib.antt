@@ -1,2 +1,2 @@
--- What the leximin layer's functions hand back, and that it is what the theory of claims speaks of.
+-- No public promise rests on what this crate defines: its inner contracts' words and its laws are below.
 pub mod inner

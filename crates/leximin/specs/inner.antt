@@ -1,4 +1,4 @@
--- What inner contracts say, and the laws that proofs cite: nothing here has to be believed.
+-- What the leximin layer's functions hand back, and that it is what the theory of claims speaks of.
 pub mod Scan
 pub mod Sided
 pub mod Tournament

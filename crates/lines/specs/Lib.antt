@@ -1,3 +1,3 @@
--- The lines of a register, each with its checks; for speed, fingerprints of names, where they stand, and lines cut once.
+-- The lines of a register, each with its checks.
 pub mod Lines
 pub mod inner

@@ -6,7 +6,8 @@ use mathlib.Core.List.{List, [], _∷_}
 use Prim.Native.Nat.{ℕ, zero, suc, _+_}
 use lib.Dec.{ltb, eqb}
 use Rattle.apportionment.specs.Limits.{stateLimit, houseLimit, sumLimit}
-use Rattle.apportionment.specs.Refusals.{accepted, lineIllFormed, numberOutOfLimits, methodUnknown, nameUsed, runningSumTooLarge, totalDiffers}
+use Rattle.apportionment.specs.Refusals.{accepted, lineIllFormed, numberOutOfLimits, methodUnknown, nameUsed, runningSumTooLarge}
+use Rattle.apportionment.specs.Refusals.{totalDiffers}
 use Rattle.apportionment.specs.Checks.{outside, firstRefusal}
 use Rattle.apportionment.specs.Lists.{sameList}
 use Rattle.apportionment.specs.Text.{bytesOf}

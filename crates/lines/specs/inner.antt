@@ -1,4 +1,4 @@
--- What inner contracts say, and the laws that proofs cite: nothing here has to be believed.
+-- Laws of a register's lines; for speed, fingerprints of names, where they stand, and lines cut once.
 pub mod Lines
 pub mod Fingerprints
 pub mod Places

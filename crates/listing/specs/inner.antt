@@ -1,4 +1,4 @@
--- What inner contracts say, and the laws that proofs cite: nothing here has to be believed.
+-- What writing a listing comes to, that every listing fits its page, and document 01's listing.
 pub mod Rows
 pub mod Room
 pub mod Listed

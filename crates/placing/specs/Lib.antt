@@ -1,3 +1,3 @@
--- What opening and stepping hand back, and how a genuine placing is told.
+-- What opening and stepping hand back.
 pub mod Placing
 pub mod inner

@@ -1,4 +1,4 @@
--- What inner contracts say, and the laws that proofs cite: nothing here has to be believed.
+-- How a genuine placing is told, and the walk from the start to the house.
 pub mod Lists
 pub mod Genuine
 pub mod Telling

@@ -1,3 +1,2 @@
--- What the checks say beyond the definitions of `apportionment`: the total as the code adds it up, the refusal of opening, and
--- what holds once nothing is refused.
+-- No public promise rests on what this crate defines: its inner contracts' words and its laws are below.
 pub mod inner

@@ -1,4 +1,4 @@
--- What inner contracts say, and the laws that proofs cite: nothing here has to be believed.
+-- The total as the code adds it up, and what holds once nothing is refused.
 pub mod Populations
 pub mod Total
 pub mod Passed

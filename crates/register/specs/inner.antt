@@ -1,4 +1,4 @@
--- What inner contracts say, and the laws that proofs cite: nothing here has to be believed.
+-- What a register that is read holds, its rows and where their names stand, and document 01's registers.
 pub mod Register
 pub mod Names
 pub mod Sound

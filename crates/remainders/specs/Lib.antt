@@ -1,3 +1,2 @@
--- How largest remainders are worked out: lists and counts as loops build them, whole parts, the standing of a state for a seat that is
--- left, the search for the bar, and the seats; and that these add up to the house.
+-- No public promise rests on what this crate defines: its inner contracts' words and its laws are below.
 pub mod inner

@@ -1,7 +1,7 @@
--- Leximin's work as text, so that a person can follow which state moved at each step and why: the start, then before each step every state's
--- seats and departure as they are and as they would be, then the step, and at last the end. README has the format with an example.
--- A line is laid out in the order in which it is written. P is the sum of the populations, H the house; departures are measured against
--- P / H throughout. A state's name stands on its line of the register; `rows` is the register from the first state's line on.
+-- Leximin's work as text, so that a person can follow which state moved at each step and why: the start, then before each step every
+-- state's seats and departure as they are and as they would be, then the step, and at last the end. README has the format with an example.
+-- A line is laid out in the order in which it is written. P is the sum of the populations, H the house; departures are measured against P
+-- / H throughout. A state's name stands on its line of the register; `rows` is the register from the first state's line on.
 -- Assumes nothing.
 use mathlib.Core.Bool.{Bool, cond}
 use mathlib.Core.List.{List, [], _++_}
@@ -46,8 +46,8 @@ unfoldable pub movedText : (name : List ℕ) (p a b P H : ℕ) → List ℕ
 movedText name p a b P H =
     name ++ numbersText a b ++ bytesOf "," ++ departureText p a P H ++ bytesOf "," ++ departureText p b P H
 
--- The seats of a state if it is the one that moves: one more where a seat is added, one fewer where one is withdrawn. No state has more than
--- the house; short of the house none has as many, so that in the work itself this bound changes nothing.
+-- The seats of a state if it is the one that moves: one more where a seat is added, one fewer where one is withdrawn. No state has more
+-- than the house; short of the house none has as many, so that in the work itself this bound changes nothing.
 unfoldable pub seatsIfMoved : (adds : Bool) (a H : ℕ) → ℕ
 seatsIfMoved adds a H = cond adds (min (a + 1) H) (a - 1)
 

@@ -1,3 +1,3 @@
--- What inner contracts say, and the laws that proofs cite: nothing here has to be believed.
+-- Laws of the lines of the work, and that every block fits its page.
 pub mod Work
 pub mod Room

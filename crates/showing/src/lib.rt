@@ -10,7 +10,8 @@ ghost use mathlib.Core.Path.{_≡_};
 ghost use mathlib.Core.List.{[]};
 ghost use lib.ListN.{length};
 ghost use Rattle.text.specs.Writing.{Wrote};
-ghost use Rattle.showing.specs.Work.{statesIn, firstDifference, movedAt, standText, startText, endText, weighedText, stepText, moveText};
+ghost use Rattle.showing.specs.Work.{statesIn, firstDifference, movedAt, standText, startText, endText, weighedText, stepText};
+ghost use Rattle.showing.specs.Work.{moveText};
 
 // Room for every block: each state weighed, in a line at its longest, and the longest line of a step.
 pub const PAGE_ROOM: usize = STATE_LIMIT * 77 + 89;

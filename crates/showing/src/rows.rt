@@ -6,7 +6,8 @@ ghost use mathlib.Core.Path.{_≡_};
 ghost use mathlib.Core.List.{[]};
 ghost use lib.ListN.{length};
 ghost use Rattle.text.specs.Writing.{Wrote};
-ghost use Rattle.showing.specs.Work.{departureText, headLine, stateLine, stateLines, seatsIfMoved, movedText, weighedLine, weighedLines, verbText, stepLine};
+ghost use Rattle.showing.specs.Work.{departureText, headLine, stateLine, stateLines, seatsIfMoved, movedText, weighedLine};
+ghost use Rattle.showing.specs.Work.{weighedLines, verbText, stepLine};
 
 // The shown departure of a state, or `none` where it has no seat. Numbers outside their limits, which no placing that opening gave holds,
 // have no departure either.

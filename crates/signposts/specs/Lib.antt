@@ -1,2 +1,2 @@
--- Nothing here has to be believed.
+-- No public promise rests on what this crate defines: its inner contracts' words and its laws are below.
 pub mod inner

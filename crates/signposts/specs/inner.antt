@@ -1,3 +1,3 @@
--- What inner contracts say, and the laws that proofs cite: nothing here has to be believed.
+-- Claims as the code holds them, and which state moves first by them.
 pub mod Claims
 pub mod Order

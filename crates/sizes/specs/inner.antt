@@ -1,3 +1,3 @@
--- What inner contracts say, and the laws that proofs cite: nothing here has to be believed.
+-- Sizes as the code holds them, and what comparing claims by quotients asks.
 pub mod Sizes
 pub mod Quotients

@@ -1,4 +1,4 @@
--- What it means that text was written into a lent buffer, the words that are written, and how long a piece of text can be.
+-- What it means that text was written into a lent buffer, and the lines that every program shares.
 pub mod Writing
 pub mod Shared
 pub mod inner

@@ -1,4 +1,4 @@
--- What inner contracts say, and the laws that proofs cite: nothing here has to be believed.
+-- The law that joins what two calls wrote, and how long a piece of text can be.
 pub mod Writing
 pub mod Decimal
 pub mod Bounds

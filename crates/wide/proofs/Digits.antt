@@ -4,23 +4,8 @@
 use mathlib.Core.Path.{_≡_, refl, _∙_, ap, sym}
 use mathlib.Core.Bool.{Bool, true, false}
 use Prim.Native.Nat.{ℕ, zero, suc, _+_, _*_, _/_, _%_, _≤_, _<_}
-use native.Mathlib.Nat.{
-  add-mul,
-  mul-add,
-  mul-assoc,
-  mul-comm,
-  mul-left-comm,
-  mul-suc,
-  suc-mul,
-  add-zero,
-  mul-le-mul,
-  mul-le-mul-right,
-  not-suc-le-zero,
-  le-of-suc-le-suc,
-  mod-lt,
-  div-add-mod',
-  div-lt-iff-lt-mul,
-}
+use native.Mathlib.Nat.{add-mul, mul-add, mul-assoc, mul-comm, mul-left-comm, mul-suc, suc-mul, add-zero, mul-le-mul, mul-le-mul-right}
+use native.Mathlib.Nat.{not-suc-le-zero, le-of-suc-le-suc, mod-lt, div-add-mod', div-lt-iff-lt-mul}
 use native.Mathlib.Omega.{arith}
 use lib.Dec.{ltb}
 use borrow.Author.Tests.{ltb-true, ltb-false, lt-ltb, le-ltb}

@@ -1,2 +1,2 @@
--- What is known of the placings that the program shows.
+-- No public promise rests on what this crate defines: its inner contracts' words and its laws are below.
 pub mod inner

@@ -1,2 +1,2 @@
--- What inner contracts say, and the laws that proofs cite: nothing here has to be believed.
+-- What is known of the placings that the program shows.
 pub mod Way

@@ -11,7 +11,8 @@ use lib.ListN.{length, getD}
 use Rattle.apportionment.specs.Quantities.{Fraction, less}
 use Rattle.apportionment.specs.Divisor.{claimOf}
 use Rattle.claims.specs.inner.Order.{ClaimOrder, Standing, comes}
-use Rattle.claims.specs.inner.Fractions.{less-true, less-of-products, less-asymmetric, less-transitive, less-of-not-of-less, not-less-through}
+use Rattle.claims.specs.inner.Fractions.{less-true, less-of-products, less-asymmetric, less-transitive, less-of-not-of-less}
+use Rattle.claims.specs.inner.Fractions.{not-less-through}
 use Rattle.claims.specs.inner.DivisorClaims.{Increasing, divisorTest}
 
 -- The fraction t parts the claims c of a state at x seats: it is below none of the claims met, and below the next.

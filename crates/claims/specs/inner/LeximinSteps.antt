@@ -15,7 +15,8 @@ use Rattle.apportionment.specs.Quantities.{distance}
 use Rattle.apportionment.specs.Leximin.{startSeats, startTotal, gap, totalAfter, leximinFor}
 use Rattle.claims.specs.inner.Order.{Standing, placed, placedTimes, withdrawn, withdrawnTimes, endsApart}
 use Rattle.claims.specs.inner.StandingMoves.{sum-listOf-one}
-use Rattle.claims.specs.inner.Standing.{placedTimes-standing, sum-placedTimes, withdrawnTimes-standing, sum-withdrawnTimes, ends-standing, standing-ends}
+use Rattle.claims.specs.inner.Standing.{placedTimes-standing, sum-placedTimes, withdrawnTimes-standing, sum-withdrawnTimes}
+use Rattle.claims.specs.inner.Standing.{ends-standing, standing-ends}
 use Rattle.claims.specs.inner.SizeClaims.{sizeTest, oneEach, Sound}
 use Rattle.claims.specs.inner.SizeOrder.{size-order}
 use Rattle.claims.specs.inner.Optimal.{standing-leximin}

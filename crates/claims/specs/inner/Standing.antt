@@ -14,11 +14,14 @@ use lib.ListN.{length, getD}
 use Rattle.apportionment.specs.Lists.{sum, listOf}
 use Rattle.apportionment.specs.Divisor.{oneMore}
 use Rattle.claims.specs.inner.Order.{ClaimTest, ClaimOrder, comes, Standing, endsApart}
-use Rattle.claims.specs.inner.Order.{wantsBefore, firstUnmet, placed, placedTimes, givesUpBefore, lastMet, oneLess, withdrawn, withdrawnTimes}
+use Rattle.claims.specs.inner.Order.{wantsBefore, firstUnmet, placed, placedTimes, givesUpBefore, lastMet, oneLess, withdrawn}
+use Rattle.claims.specs.inner.Order.{withdrawnTimes}
 use Rattle.claims.specs.inner.StandingMoves.{length-oneMore, length-oneLess, at-oneMore, at-oneLess}
 use Rattle.claims.specs.inner.StandingMoves.{sum-oneMore, sum-oneLess, le-same-sum, nowhere-or-somewhere-above, somewhere-above}
-use Rattle.claims.specs.inner.StandingOrder.{firstPlace-le, firstPlace-holds, firstPlace-first, comes-by-value, not-comes, comes-otherwise, Claim}
-use Rattle.claims.specs.inner.StandingOrder.{claims-asym, claims-through, before-no-earlier, no-later-before, claims-irreflexive, rises-far, never-falls, comes-order}
+use Rattle.claims.specs.inner.StandingOrder.{firstPlace-le, firstPlace-holds, firstPlace-first, comes-by-value, not-comes}
+use Rattle.claims.specs.inner.StandingOrder.{comes-otherwise, Claim}
+use Rattle.claims.specs.inner.StandingOrder.{claims-asym, claims-through, before-no-earlier, no-later-before, claims-irreflexive}
+use Rattle.claims.specs.inner.StandingOrder.{rises-far, never-falls, comes-order}
 
 -- ---- the states picked, and the lengths and sums of seats placed and withdrawn
 
@@ -107,8 +110,8 @@ module _ (n : ℕ) (lo : ℕ → ℕ) (lt : ClaimTest) (order : ClaimOrder n lo 
       next : (i : ℕ) → i ≤ n - 1 → Claim n lo
       next i h = let hi : i < n = omega (arith, some, h) in (i, getD xs i 0, hi, least i hi)
 
-  -- Where any state is above its fewest seats, so is the state with the last claim met; its claim does not come before the last claim of such a
-  -- state, and comes after that of a later one.
+  -- Where any state is above its fewest seats, so is the state with the last claim met; its claim does not come before the last claim of
+  -- such a state, and comes after that of a later one.
   pub lastMet-last : (xs : List ℕ) → 0 < n → (i : ℕ) → i < n → lo i < getD xs i 0
       → let j = lastMet lo lt n xs in
       (lo j < getD xs j 0) × (lt j (getD xs j 0 - 1) i (getD xs i 0 - 1) ≡ false)

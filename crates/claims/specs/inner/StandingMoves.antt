@@ -4,7 +4,8 @@ use mathlib.Core.Path.{_≡_, refl, sym, ap, _∙_}
 use mathlib.Core.Logic.{_≢_, _⊎_, inl, inr, ⊎-elim}
 use mathlib.Core.List.{List, [], _∷_}
 use Prim.Native.Nat.{ℕ, zero, suc, _+_, _-_, _*_, _<_, _≤_, suc-le-suc}
-use native.Mathlib.Nat.{suc-inj, suc-ne-zero, zero-lt-suc, le-of-suc-le-suc, not-suc-le-zero, eq-or-lt-of-le, suc-mul, zero-mul, mul-zero, mul-one}
+use native.Mathlib.Nat.{suc-inj, suc-ne-zero, zero-lt-suc, le-of-suc-le-suc, not-suc-le-zero, eq-or-lt-of-le, suc-mul, zero-mul, mul-zero}
+use native.Mathlib.Nat.{mul-one}
 use native.Mathlib.Decide.{decLt, ℕ-discrete}
 use native.Mathlib.Omega.{arith}
 use lib.ListN.{length, getD, set, length-set}

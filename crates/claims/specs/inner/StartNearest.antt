@@ -5,20 +5,8 @@ use mathlib.Core.Path.{_≡_, refl}
 use mathlib.Core.Bool.{Bool, true, false, cond, false≢true}
 use mathlib.Core.Logic.{⊎-elim}
 use Prim.Native.Nat.{ℕ, zero, suc, _+_, _*_, _/_, _<_, _≤_, suc-le-suc, zero-le}
-use native.Mathlib.Nat.{
-  mul-pos,
-  mul-le-mul-right,
-  lt-of-mul-lt-mul-right,
-  le-refl,
-  lt-suc-self,
-  le-antisymm,
-  le-of-suc-le-suc,
-  not-suc-le-zero,
-  pos-of-ne-zero,
-  div-mul-le-self,
-  lt-div-mul-add,
-  eq-or-lt-of-le,
-}
+use native.Mathlib.Nat.{mul-pos, mul-le-mul-right, lt-of-mul-lt-mul-right, le-refl, lt-suc-self, le-antisymm, le-of-suc-le-suc}
+use native.Mathlib.Nat.{not-suc-le-zero, pos-of-ne-zero, div-mul-le-self, lt-div-mul-add, eq-or-lt-of-le}
 use native.Mathlib.Omega.{arith, by-contra}
 use native.Mathlib.Numerals.{add-one}
 use lib.Dec.{eqb}

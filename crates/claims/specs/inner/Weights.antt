@@ -6,24 +6,9 @@ use mathlib.Core.Bool.{Bool, true, false, cond}
 use mathlib.Core.Logic.{⊎-elim}
 use mathlib.Core.List.{List, [], _∷_}
 use Prim.Native.Nat.{ℕ, zero, suc, _+_, _*_, _/_, _^_, _<_, _≤_, _∣_}
-use native.Mathlib.Nat.{
-  mul-assoc,
-  mul-comm,
-  mul-left-comm,
-  mul-pos,
-  mul-lt-mul-of-pos-right,
-  mul-le-mul-right,
-  lt-of-mul-lt-mul-right,
-  le-of-mul-le-mul-right,
-  le-suc-iff,
-  one-le-pow,
-  pow-succ',
-  pow-le-pow-right,
-  dvd-mul-right,
-  dvd-mul-left-of-dvd,
-  mul-dvd-mul-right,
-  div-mul-cancel,
-}
+use native.Mathlib.Nat.{mul-assoc, mul-comm, mul-left-comm, mul-pos, mul-lt-mul-of-pos-right, mul-le-mul-right, lt-of-mul-lt-mul-right}
+use native.Mathlib.Nat.{le-of-mul-le-mul-right, le-suc-iff, one-le-pow, pow-succ', pow-le-pow-right, dvd-mul-right, dvd-mul-left-of-dvd}
+use native.Mathlib.Nat.{mul-dvd-mul-right, div-mul-cancel}
 use native.Mathlib.Omega.{arith}
 use lib.Dec.{ltb}
 use lib.ListN.{length}

@@ -6,34 +6,15 @@ use mathlib.Core.Bool.{Bool, true, false, cond}
 use mathlib.Core.List.{List, [], _∷_, map}
 use mathlib.Core.Option.{Option}
 use Prim.Native.Nat.{ℕ, suc, _+_, _-_, _*_, _<_, _≤_}
-use native.Mathlib.Nat.{
-  add-mul,
-  mul-assoc,
-  mul-left-comm,
-  mul-le-mul,
-  mul-pos,
-  le-refl,
-  one-mul,
-  div-eq-of-lt,
-  div-eq-of-lt-le,
-  div-lt-iff-lt-mul,
-}
+use native.Mathlib.Nat.{add-mul, mul-assoc, mul-left-comm, mul-le-mul, mul-pos, le-refl, one-mul, div-eq-of-lt, div-eq-of-lt-le}
+use native.Mathlib.Nat.{div-lt-iff-lt-mul}
 use native.Mathlib.Numerals.{add-one}
 use native.Mathlib.Omega.{arith}
 use lib.IntN.{ℤ, pos, negsuc, negℤ}
 use borrow.Author.Tests.{ltb-true}
 use Rattle.apportionment.specs.Limits.{houseLimit}
 use Rattle.apportionment.specs.Checks.{within, outside, firstRefusal}
-use Rattle.apportionment.specs.Quantities.{
-  atMost,
-  distance,
-  hundredthsOf,
-  isBelow,
-  markOf,
-  nearestWhole,
-  shownOf,
-  sizeOf,
-}
+use Rattle.apportionment.specs.Quantities.{atMost, distance, hundredthsOf, isBelow, markOf, nearestWhole, shownOf, sizeOf}
 use Rattle.apportionment.specs.declared.Mark.{Mark}
 use Rattle.apportionment.specs.declared.Mark.the-variants.{In, High, Over}
 use Rattle.departure.specs.declared.Answer.{Answer}

@@ -1,4 +1,5 @@
--- `desk::desk_allot` is right because a number that is no method is refused before anything is done, and any other is handed to allotting as its method.
+-- `desk::desk_allot` is right because a number that is no method is refused before anything is done, and any other is handed to allotting
+-- as its method.
 -- Assumes nothing.
 use borrow.Author.Needs.{needs}
 use borrow.Author.Tests.{lt-ltb}

@@ -1,4 +1,5 @@
--- `desk::desk_name` is right because what is left from the state's line on is an end of the register, so that the line starts as far in as the register is longer.
+-- `desk::desk_name` is right because what is left from the state's line on is an end of the register, so that the line starts as far in as
+-- the register is longer.
 -- Assumes nothing.
 use borrow.Author.Needs.{needs}
 use borrow.Author.Tests.{eq-eqb, ne-eqb}

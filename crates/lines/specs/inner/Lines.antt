@@ -1,4 +1,5 @@
--- What holds of a line of the register that is not refused, and the refusals of a head and of a state's line by the parts that the code has.
+-- What holds of a line of the register that is not refused, and the refusals of a head and of a state's line by the parts that the code
+-- has.
 -- Assumes nothing.
 use mathlib.Core.Path.{_≡_, refl, sym, _∙_}
 use mathlib.Core.Bool.{Bool, true, false, cond, not}

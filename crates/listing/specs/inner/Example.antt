@@ -9,34 +9,10 @@ use lib.ListN.{length}
 use Rattle.apportionment.specs.Refusals.{accepted}
 use Rattle.apportionment.specs.Text.{bytesOf, decimal, decimalWith}
 use Rattle.apportionment.specs.Lists.{sum}
-use Rattle.apportionment.specs.Quantities.{
-  less,
-  atMost,
-  distance,
-  sizeOf,
-  isBelow,
-  nearestWhole,
-  hundredthsOf,
-  shownOf,
-  hundredthsText,
-  shownText,
-  markOf,
-  markText,
-}
-use Rattle.apportionment.specs.Leximin.{
-  sizesOf,
-  insert,
-  largestFirst,
-  listLess,
-  moreAtFirst,
-  sizeList,
-  chosenBefore,
-  withFirst,
-  allotments,
-  firstOf,
-  firstOfAll,
-  leximinFor,
-}
+use Rattle.apportionment.specs.Quantities.{less, atMost, distance, sizeOf, isBelow, nearestWhole, hundredthsOf, shownOf, hundredthsText}
+use Rattle.apportionment.specs.Quantities.{shownText, markOf, markText}
+use Rattle.apportionment.specs.Leximin.{sizesOf, insert, largestFirst, listLess, moreAtFirst, sizeList, chosenBefore, withFirst}
+use Rattle.apportionment.specs.Leximin.{allotments, firstOf, firstOfAll, leximinFor}
 use Rattle.apportionment.specs.Checks.{within, outside, firstRefusal}
 use Rattle.apportionment.specs.Allotment.{statesOutside, houseOutside, hasZero, sumOutside, listMisfits, seatsEveryState, seatsTooFew}
 use Rattle.apportionment.specs.Allotment.{problemChecks, allotRefusal, seatsOf}
@@ -46,21 +22,8 @@ use Rattle.register.specs.inner.Examples.{example, exampleReading, exampleName,
 use Rattle.register.specs.declared.Reading.{Reading}
 use Rattle.apportionment.specs.Methods.{methodText}
 use Rattle.text.specs.Shared.{numbersText, totalLine, refusalLine}
-use Rattle.listing.specs.Listing.{
-  headLine,
-  departureText,
-  stateLine,
-  stateLines,
-  seatsIn,
-  listingIn,
-  listingOf,
-  refused,
-  allotRefusalIn,
-  fittedOf,
-  listedIn,
-  listedOf,
-  printedOf,
-}
+use Rattle.listing.specs.Listing.{headLine, departureText, stateLine, stateLines, seatsIn, listingIn, listingOf, refused}
+use Rattle.listing.specs.Listing.{allotRefusalIn, fittedOf, listedIn, listedOf, printedOf}
 use Rattle.listing.specs.inner.Rows.{same-listing}
 
 abbrev exampleListing : List ℕ

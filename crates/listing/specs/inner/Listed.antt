@@ -25,7 +25,8 @@ use Rattle.register.specs.Names.{rowsOf, nameInRow}
 use Rattle.register.specs.inner.Sound.{ReadingSound, reading-sound}
 use Rattle.register.specs.inner.Rows.{name-limited}
 use Rattle.listing.specs.declared.Listed.{Listed}
-use Rattle.listing.specs.Listing.{populationsIn, seatsIn, listingIn, listingOf, refused, allotRefusalIn, fittedOf, listedIn, listedOf, bufferAfter, ListingIs}
+use Rattle.listing.specs.Listing.{populationsIn, seatsIn, listingIn, listingOf, refused, allotRefusalIn, fittedOf, listedIn}
+use Rattle.listing.specs.Listing.{listedOf, bufferAfter, ListingIs}
 use Rattle.listing.specs.inner.Rows.{listing-by-rows}
 use Rattle.allot.specs.inner.Shared.{Shared, allotment-shared}
 use Rattle.listing.specs.inner.Room.{AllListable, listingRoom, listing-has-room}

@@ -13,7 +13,8 @@ use Rattle.apportionment.specs.Lists.{sum}
 use Rattle.apportionment.specs.Quantities.{sizeOf, markOf}
 use Rattle.apportionment.specs.declared.Method.{Method}
 use Rattle.register.specs.inner.Rows.{nameLimit}
-use Rattle.text.specs.inner.Bounds.{decimal-of-sum, decimal-of-house, decimal-of-states, mark-length, method-length, lines-length, numbers-length, total-line-length}
+use Rattle.text.specs.inner.Bounds.{decimal-of-sum, decimal-of-house, decimal-of-states, mark-length, method-length, lines-length}
+use Rattle.text.specs.inner.Bounds.{numbers-length, total-line-length}
 use Rattle.text.specs.inner.ShownRoom.{shown-room}
 use Rattle.register.specs.declared.Reading.{Reading}
 use Rattle.departure.specs.inner.Answer.{InLimits}

@@ -13,8 +13,10 @@ use Rattle.apportionment.specs.Checks.{within, outside, firstRefusal}
 use Rattle.apportionment.specs.declared.Method.the-variants.{Leximin}
 use Rattle.fields.specs.Parts.{placeOf, has, before, after, allBetween}
 use Rattle.apportionment.specs.Methods.{methodText}
-use Rattle.fields.specs.Grammar.{lineFeed, ended, lastByte, withoutReturn, lineOf, restOf, fieldOf, fieldsAfter, isNumber, valueFrom, valueOf, isName, isMethodField, methodNamed}
-use Rattle.lines.specs.Lines.{methodField, houseField, countField, headFormed, isHead, headRefused, headOf, nameAt, numberField, numberAt, pairFormed, isPair, isStateLine, isClosingLine, usedIn, stateRefusal, closingRefusal}
+use Rattle.fields.specs.Grammar.{lineFeed, ended, lastByte, withoutReturn, lineOf, restOf, fieldOf, fieldsAfter, isNumber, valueFrom}
+use Rattle.fields.specs.Grammar.{valueOf, isName, isMethodField, methodNamed}
+use Rattle.lines.specs.Lines.{methodField, houseField, countField, headFormed, isHead, headRefused, headOf, nameAt, numberField, numberAt}
+use Rattle.lines.specs.Lines.{pairFormed, isPair, isStateLine, isClosingLine, usedIn, stateRefusal, closingRefusal}
 use Rattle.lines.specs.Lines.{isUnknown, methodIn, headRefusal, headRead}
 use Rattle.register.specs.Register.{noPopulations, refused, accepts, endOf, closingOf, statesFrom, statesOf, linesOf, readingOf}
 use Rattle.register.specs.Names.{rowsOf, linesAfter, nameInRow, nameRefusalIn, nameRefusalOf, nameOf}

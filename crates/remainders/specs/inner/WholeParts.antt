@@ -5,17 +5,8 @@ use mathlib.Core.Path.{_≡_}
 use mathlib.Core.List.{List}
 use Prim.Native.Nat.{ℕ, _+_, _*_, _/_, _^_, _≤_, _<_}
 use native.Mathlib.Omega.{arith}
-use native.Mathlib.Nat.{
-  add-mul,
-  one-mul,
-  lt-div-mul-add,
-  mul-le-mul,
-  mul-comm,
-  le-trans,
-  div-mul-le-self,
-  le-of-mul-le-mul-right,
-  mul-le-mul-right,
-}
+use native.Mathlib.Nat.{add-mul, one-mul, lt-div-mul-add, mul-le-mul, mul-comm, le-trans, div-mul-le-self, le-of-mul-le-mul-right}
+use native.Mathlib.Nat.{mul-le-mul-right}
 use lib.ListN.{length, getD}
 use Rattle.apportionment.specs.Limits.{sumLimit, houseLimit}
 use Rattle.apportionment.specs.Lists.{sum, listOf}

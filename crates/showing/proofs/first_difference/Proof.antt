@@ -1,4 +1,5 @@
--- `showing::first_difference` meets its contract. The loop's invariant: the first difference is the first one from place i on; the measure is the places that are left.
+-- `showing::first_difference` meets its contract. The loop's invariant: the first difference is the first one from place i on; the measure
+-- is the places that are left.
 -- Assumes nothing.
 use mathlib.Core.Path.{_≡_, sym, _∙_}
 use Prim.Native.Nat.{_≤_, _-_}

@@ -1,4 +1,5 @@
--- `showing::moved_at` meets its contract: both parts have a place for each state, and the first place where they differ is looked for there.
+-- `showing::moved_at` meets its contract: both parts have a place for each state, and the first place where they differ is looked for
+-- there.
 -- Assumes nothing.
 use mathlib.Core.Path.{sym, _∙_}
 use borrow.Author.Needs.{needs}

@@ -1,4 +1,5 @@
--- `showing::put_stand` meets its contract: the lines of the states, then the totals. The parts of the arrays that are lent have a place for each state.
+-- `showing::put_stand` meets its contract: the lines of the states, then the totals. The parts of the arrays that are lent have a place
+-- for each state.
 -- Assumes nothing.
 use mathlib.Core.Path.{sym, _∙_}
 use borrow.Author.Needs.{needs}

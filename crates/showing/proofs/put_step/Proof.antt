@@ -1,4 +1,5 @@
--- `showing::put_step` meets its contract: a place that a state has is one that the arrays have, and its line is written; any other leaves all as it was.
+-- `showing::put_step` meets its contract: a place that a state has is one that the arrays have, and its line is written; any other leaves
+-- all as it was.
 -- Assumes nothing.
 use native.Mathlib.Omega.{arith}
 use borrow.Author.Needs.{needs}

@@ -20,32 +20,13 @@ use Rattle.departure.specs.Answer.{departureRefusal, departureShown}
 use Rattle.departure.specs.inner.Answer.{not-refused}
 use Rattle.register.specs.Names.{nameInRow}
 use Rattle.register.specs.inner.Rows.{nameLimit}
-use Rattle.text.specs.inner.Bounds.{decimal-length, decimal-of-sum, decimal-of-house, decimal-of-states, numbers-length, total-line-length, lines-length}
+use Rattle.text.specs.inner.Bounds.{decimal-length, decimal-of-sum, decimal-of-house, decimal-of-states, numbers-length}
+use Rattle.text.specs.inner.Bounds.{total-line-length, lines-length}
 use Rattle.text.specs.inner.ShownRoom.{shown-room}
 use Rattle.placing.specs.declared.Placing.{Placing}
-use Rattle.showing.specs.Work.{
-  departureText,
-  headLine,
-  stateLine,
-  stateLines,
-  movedText,
-  seatsIfMoved,
-  weighedLine,
-  weighedAt,
-  weighedLines,
-  verbText,
-  stepLine,
-  statesIn,
-  populationsIn,
-  seatsIn,
-  standText,
-  startText,
-  endText,
-  weighedText,
-  movedAt,
-  stepText,
-  moveText,
-}
+use Rattle.showing.specs.Work.{departureText, headLine, stateLine, stateLines, movedText, seatsIfMoved, weighedLine, weighedAt}
+use Rattle.showing.specs.Work.{weighedLines, verbText, stepLine, statesIn, populationsIn, seatsIn, standText, startText, endText}
+use Rattle.showing.specs.Work.{weighedText, movedAt, stepText, moveText}
 
 -- Seats on the way to a house: the start has less than a seat for each state more.
 abbrev pub seatsLimit : ℕ

@@ -1,4 +1,5 @@
--- `showing::rows::put_states` meets its contract. The loop's invariant: the lines of the first k states were written, and `row` starts at the next one's line; the measure is the states that are left.
+-- `showing::rows::put_states` meets its contract. The loop's invariant: the lines of the first k states were written, and `row` starts at
+-- the next one's line; the measure is the states that are left.
 -- Assumes nothing.
 use mathlib.Core.Path.{_≡_, refl}
 use Prim.Native.Nat.{_≤_, _-_}
