@@ -145,17 +145,18 @@ fn drawn_down(standings: &[u64], low: u64, high: u64) -> u64
     best
 }
 
-// Where the bar lies: from `low` to `high`, with so many states above `high`. `from` states stand at `low` or above; it only says whether
-// drawing an end in pays, and no proof relies on it.
+// Where the bar lies: from `low` to `high`, with so many states above `high`. The other two only say whether drawing an end in pays, and no
+// proof relies on them: it does where at most `over` states stand above a new upper end, or at least `from` at a new lower one or above.
 struct Range {
     low: u64,
     high: u64,
     above: u64,
+    over: u64,
     from: u64,
 }
 
-// The lower end of what is left of a range: `low`, or drawn in where no state was cut off, so that equal standings do not keep the ends
-// apart.
+// The lower end of what is left of a range: `low`, or drawn in where no state was cut off, or few at first, so that equal standings do not
+// keep the ends apart.
 fn lower_end(standings: &[u64], low: u64, high: u64, loose: bool) -> u64
     requires { ⌜ low ≤ high ⌝ }
     ensures { λ r. ⌜ DrawnUp (now (standings .entry)) low high (length (now (standings .entry))) r ⌝ }
@@ -190,23 +191,26 @@ fn parted(standings: &[u64], left: u64, range: Range, middle: u64) -> Range
             low: middle,
             high: middle,
             above,
+            over: above,
             from: above,
         };
     }
     if above < left {
-        let end = upper_end(standings, low, middle, above == range.above);
+        let end = upper_end(standings, low, middle, above <= range.over);
         return Range {
             low,
             high: end,
             above,
+            over: above,
             from: range.from,
         };
     }
-    let end = lower_end(standings, middle + 1, high, above == range.from);
+    let end = lower_end(standings, middle + 1, high, range.from <= above);
     Range {
         low: end,
         high,
         above: range.above,
+        over: range.over,
         from: above,
     }
 }
@@ -227,11 +231,14 @@ fn bar_of(standings: &[u64], left: u64, least: u64, greatest: u64) -> Range
     ensures { λ r. ⌜ BarFound (now (standings .entry)) left r ⌝ }
 {
     let states = standings.len() as u64;
+    let few = states / 32;
+    let most = states - few;
     let all = Range {
         low: least,
         high: greatest,
         above: 0,
-        from: states,
+        over: few,
+        from: most,
     };
     if least == greatest {
         return all;

@@ -39,7 +39,8 @@ leximin-shared ps H ok fits =
 divisor-shared : (m : Method) (ps : List ℕ) (H : ℕ) → Passed ps H → Shared (length ps) H (divisorSeats m ps H)
 unfolding divisorSeats
 divisor-shared m ps H ok =
-    let weighs : (i : ℕ) → i < length ps → 0 < weightOf m (getD ps i 0) = λ i below. weight-positive m (getD ps i 0) (ok .peopled i below) in
+    let weighs : (i : ℕ) → i < length ps → 0 < weightOf m (getD ps i 0) =
+    λ i below. weight-positive m (getD ps i 0) (ok .peopled i below) in
     record {
       states = claims-met-standing (signposts-increase m) weighs (ok .someState) H .states;
       whole = claims-met-sum (signposts-increase m) weighs (ok .someState) H;

@@ -125,7 +125,8 @@ module _ {listing page : List ℕ} {size : ℕ} (front : AtFront listing page si
       record { answer = rw room; buffer = rw (front .bytes) at copied }
 
 fitted-or-not : (listing before : List ℕ)
-    → copiedOut listing before ≡ cond (eqb (fittedOf listing (length before) .refusal) accepted) (listing ++ drop (length listing) before) before
+    → copiedOut listing before
+    ≡ cond (eqb (fittedOf listing (length before) .refusal) accepted) (listing ++ drop (length listing) before) before
 unfolding copiedOut fittedOf refused
 fitted-or-not listing before = by-room (leb (length listing) (length before))
   where

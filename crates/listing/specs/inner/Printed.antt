@@ -33,8 +33,10 @@ same-answer s room enough =
     by-tests (eqb (readingOf s .refusal) accepted) (eqb (allotRefusalIn (readingOf s)) accepted) refl refl
   where
     by-tests : (t u : Bool) → eqb (readingOf s .refusal) accepted ≡ t → eqb (allotRefusalIn (readingOf s)) accepted ≡ u
-        → cond t (cond u (fittedOf (listingOf s) room) (refused (allotRefusalIn (readingOf s)) 0)) (refused (readingOf s .refusal) (readingOf s .line))
-        ≡ cond t (cond u (fittedOf (listingOf s) (length (listingOf s))) (refused (allotRefusalIn (readingOf s)) 0)) (refused (readingOf s .refusal) (readingOf s .line))
+        → cond t (cond u (fittedOf (listingOf s) room) (refused (allotRefusalIn (readingOf s)) 0))
+        (refused (readingOf s .refusal) (readingOf s .line))
+        ≡ cond t (cond u (fittedOf (listingOf s) (length (listingOf s))) (refused (allotRefusalIn (readingOf s)) 0))
+        (refused (readingOf s .refusal) (readingOf s .line))
     by-tests true true good allotted = fits-exactly (listingOf s) room (omega (arith, listing-fits s (eqb-true _ _ good) (eqb-true _ _ allotted)))
     by-tests true false good refusal = refl
     by-tests false u bad refusal = refl

@@ -116,9 +116,9 @@ pub record Searchable (xs : List ℕ) (left least greatest : ℕ) : Type 0 where
   pub allReach : reaching xs least (length xs) ≡ length xs
 
 -- Then all that lies between these holds the bar.
-pub whole-holds-bar : (xs : List ℕ) (left least greatest from : ℕ) → Searchable xs left least greatest
-    → HoldsBar xs left (record { low = least; high = greatest; above = 0; from = from })
-whole-holds-bar xs left least greatest from ok = record {
+pub whole-holds-bar : (xs : List ℕ) (left least greatest over from : ℕ) → Searchable xs left least greatest
+    → HoldsBar xs left (record { low = least; high = greatest; above = 0; over = over; from = from })
+whole-holds-bar xs left least greatest over from ok = record {
   ordered = ok .ordered;
   counted = sym (ok .noneAbove);
   few = omega arith;
@@ -137,10 +137,10 @@ one-number-is-bar xs left r h one =
     record { bar = record { above = omega (arith, h .few); enough = h .enough }; counted = above }
 
 -- A number with just as many states above it as seats are left is such a range.
-pub middle-holds-bar : (xs : List ℕ) (left middle above from : ℕ)
+pub middle-holds-bar : (xs : List ℕ) (left middle above over from : ℕ)
     → above ≡ reaching xs (middle + 1) (length xs) → above ≡ left
-    → HoldsBar xs left (record { low = middle; high = middle; above = above; from = from })
-middle-holds-bar xs left middle above from e just = record {
+    → HoldsBar xs left (record { low = middle; high = middle; above = above; over = over; from = from })
+middle-holds-bar xs left middle above over from e just = record {
   ordered = omega arith;
   counted = e;
   few = omega arith;
