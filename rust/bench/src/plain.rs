@@ -104,6 +104,11 @@ impl Times {
         self.0[self.fastest()]
     }
 
+    /// The library's time over that of the plain program with a given place.
+    pub fn ratio_to(&self, place: usize) -> f64 {
+        self.library() / self.0[place]
+    }
+
     /// The library's time over the fastest plain program's.
     pub fn ratio(&self) -> f64 {
         self.library() / self.plain()
