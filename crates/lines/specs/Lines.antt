@@ -44,11 +44,12 @@ headFormed isEnded word method house count =
 unfoldable pub isHead : List ℕ → Bool
 isHead s = headFormed (ended s) (fieldOf (lineOf s)) (methodField s) (houseField s) (countField s)
 
--- The method that a field names; leximin where it names none.
+-- A field names no method.
 unfoldable pub isUnknown : Named → Bool
 isUnknown Unknown = true
 isUnknown (Known m) = false
 
+-- The method that a field names; leximin where it names none.
 unfoldable pub methodIn : Named → Method
 methodIn Unknown = Leximin
 methodIn (Known m) = m
@@ -62,13 +63,15 @@ headRefusal s = firstRefusal (
     ∷ (outside stateLimit (valueOf (countField s)), numberOutOfLimits)
     ∷ [])
 
--- What the head says; refused, all but the number is 0, and the method is leximin.
+-- A head that is refused: all but the number is 0, and the method is leximin.
 unfoldable pub headRefused : ℕ → Head
 headRefused refusal = record { refusal = refusal; method = Leximin; house = 0; states = 0 }
 
+-- Not refused, it says its method, its house and its count of states.
 unfoldable pub headRead : Named → (house states : ℕ) → Head
 headRead named house states = record { refusal = accepted; method = methodIn named; house = house; states = states }
 
+-- What the head says.
 unfoldable pub headOf : List ℕ → Head
 headOf s =
     let read = headRead (methodNamed (methodField s)) (valueOf (houseField s)) (valueOf (countField s)) in
