@@ -1,3 +1,6 @@
--- Laws of the words about lists and checks.
+-- Laws of the words about lists, filling and checks, and the checked problem that the layers above start from.
+pub mod Tests
 pub mod Lists
+pub mod Filling
 pub mod Checks
+pub mod Problem

@@ -7,13 +7,13 @@ use Prim.Native.Nat.{ℕ, _<_, _≤_}
 use native.Mathlib.Nat.{le-refl}
 use lib.ListN.{length, getD}
 use Rattle.apportionment.specs.Lists.{sum}
+use Rattle.apportionment.specs.inner.Lists.{length-listOf}
 use Rattle.apportionment.specs.Leximin.{leximinFor, gap}
 use Rattle.apportionment.specs.Divisor.{weightOf, divisorSeats}
 use Rattle.apportionment.specs.Remainders.{remainderSeats, remainderSeatsAt}
 use Rattle.apportionment.specs.Allotment.{seatsEveryState, seatsOf}
 use Rattle.apportionment.specs.declared.Method.{Method}
 use Rattle.apportionment.specs.declared.Method.the-variants.{Leximin, Adams, Dean, Hill, Webster, Jefferson, Remainders}
-use Rattle.claims.specs.inner.StandingMoves.{length-listOf}
 use Rattle.claims.specs.inner.DivisorRounding.{signposts-increase, weight-positive}
 use Rattle.claims.specs.inner.DivisorSeats.{claims-met-standing, claims-met-sum}
 use Rattle.claims.specs.inner.SizeClaims.{Sound}

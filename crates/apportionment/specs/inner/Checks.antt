@@ -1,25 +1,25 @@
 -- What follows once a check has not failed: the limits of a number, and the checks after it.
 -- Assumes nothing.
-use mathlib.Core.Path.{_≡_, refl, _∙_}
-use mathlib.Core.Bool.{Bool, true, false, cond, not, false≢true}
+use mathlib.Core.Path.{_≡_, refl}
+use mathlib.Core.Bool.{Bool, true, false, false≢true}
 use mathlib.Core.List.{List, _∷_}
 use Prim.Native.Nat.{ℕ, _<_, _≤_}
 use native.Mathlib.Omega.{arith}
 use borrow.Author.Tests.{leb-true, le-leb, lt-leb, eqb-false, eq-eqb, ne-eqb, not-false}
-use lib.Dec.{leb, eqb}
+use lib.Dec.{eqb}
 use Rattle.apportionment.specs.Refusals.{accepted}
 use Rattle.apportionment.specs.Checks.{within, outside, firstRefusal}
+use Rattle.apportionment.specs.inner.Tests.{either-way}
 
 -- ---- limits
 
 -- A number within its limit, and one that is not outside it.
 pub within-limits : (limit x : ℕ) → within limit x ≡ true → (1 ≤ x) × (x ≤ limit)
 unfolding within
-within-limits limit x e = by-test (eqb x 0) refl e
-  where
-    by-test : (t : Bool) → eqb x 0 ≡ t → cond t false (leb x limit) ≡ true → (1 ≤ x) × (x ≤ limit)
-    by-test true zero h = absurd (false≢true h)
-    by-test false some h = (omega (arith, eqb-false x 0 some), leb-true x limit h)
+within-limits limit x e =
+    either-way (eqb x 0)
+    (λ zero. absurd (false≢true (rw zero at e)))
+    (λ some. (omega (arith, eqb-false x 0 some), leb-true x limit (rw some at e)))
 
 pub within-true : (limit x : ℕ) → (1 ≤ x) × (x ≤ limit) → within limit x ≡ true
 unfolding within

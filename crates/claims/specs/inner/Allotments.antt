@@ -12,7 +12,8 @@ use native.Mathlib.Omega.{arith}
 use lib.ListN.{length, getD}
 use Rattle.apportionment.specs.Lists.{sum}
 use Rattle.apportionment.specs.Leximin.{withFirst, allotments, firstOf, firstOfAll}
-use Rattle.claims.specs.inner.Every.{Every, every-implied, every-append, every-map, cond-both}
+use Rattle.apportionment.specs.inner.Tests.{cond-both}
+use Rattle.claims.specs.inner.Every.{Every, every-implied, every-append, every-map}
 
 -- ---- all allotments
 

@@ -4,14 +4,14 @@
 use mathlib.Core.Path.{_≡_, refl, ap}
 use mathlib.Core.Bool.{Bool, true, false, cond}
 use mathlib.Core.Logic.{⊎-elim}
-use mathlib.Core.List.{List, [], _∷_, map}
-use Prim.Native.Nat.{ℕ, zero, suc, _+_, _*_, _/_, _<_, _≤_}
-use native.Mathlib.Nat.{le-of-eq, le-of-lt, eq-or-lt-of-le, le-trans, le-of-suc-le-suc, not-suc-le-zero}
+use mathlib.Core.List.{List}
+use Prim.Native.Nat.{ℕ, suc, _+_, _*_, _/_, _<_, _≤_}
+use native.Mathlib.Nat.{le-of-eq, le-of-lt, eq-or-lt-of-le, le-trans}
 use native.Mathlib.Nat.{mul-le-mul-left, mul-le-mul-right, mul-lt-mul-of-pos-right, div-mul-le-self, lt-div-mul-add}
 use native.Mathlib.Omega.{arith}
 use lib.ListN.{length, getD, length-map}
 use Rattle.apportionment.specs.Lists.{sum}
-use Rattle.apportionment.specs.inner.Lists.{entry-at-most-sum}
+use Rattle.apportionment.specs.inner.Lists.{entry-at-most-sum, getD-map}
 use Rattle.apportionment.specs.Quantities.{Fraction, less}
 use Rattle.apportionment.specs.Divisor.{signpost, weightOf, claimOf}
 use Rattle.apportionment.specs.declared.Method.{Method}
@@ -132,11 +132,6 @@ module _ (m : Method) where
 
 -- ---- all states' rounded seats
 
-getD-map-within : (f : ℕ → ℕ) (xs : List ℕ) (i : ℕ) → i < length xs → getD (map f xs) i 0 ≡ f (getD xs i 0)
-getD-map-within f [] i h = absurd (not-suc-le-zero h)
-getD-map-within f (x ∷ xs) zero h = refl
-getD-map-within f (x ∷ xs) (suc i) h = getD-map-within f xs i (le-of-suc-le-suc h)
-
 pub length-rounded : (m : Method) (ps : List ℕ) (H : ℕ) → length (roundedSeats m ps H) ≡ length ps
 unfolding roundedSeats
 length-rounded m ps H = length-map ps (rounded m (sum ps) H)
@@ -153,4 +148,4 @@ module _ (ps : List ℕ) (some : 0 < length ps) (peopled : (i : ℕ) → i < len
       (averageClaim m (sum ps) H)
       (roundedSeats m ps H)
       (length-rounded m ps H)
-      (λ i h. rw (getD-map-within (rounded m (sum ps) H) ps i h) (rounded-threshold m (sum ps) H (getD ps i 0) sum-positive))
+      (λ i h. rw (getD-map (rounded m (sum ps) H) ps i h) (rounded-threshold m (sum ps) H (getD ps i 0) sum-positive))

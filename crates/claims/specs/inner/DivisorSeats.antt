@@ -3,13 +3,13 @@
 -- Assumes nothing.
 use mathlib.Core.Path.{_≡_, refl, sym, ap, _∙_}
 use mathlib.Core.Bool.{Bool, true, false, cond}
-use mathlib.Core.List.{List, [], _∷_, map}
+use mathlib.Core.List.{List, [], _∷_}
 use Prim.Native.Nat.{ℕ, zero, suc, _+_, _*_, _/_, _<_, _≤_, zero-le}
 use native.Mathlib.Nat.{le-of-eq, le-trans, le-refl, not-suc-le-zero, mul-le-mul-right, div-le-of-le-mul, sub-le}
 use native.Mathlib.Omega.{arith}
 use lib.ListN.{length, getD, set, replicate, length-replicate, getD-replicate}
 use Rattle.apportionment.specs.Lists.{sum}
-use Rattle.apportionment.specs.inner.Lists.{entry-at-most-sum}
+use Rattle.apportionment.specs.inner.Lists.{entry-at-most-sum, map-bounded}
 use Rattle.apportionment.specs.Quantities.{Fraction, less}
 use Rattle.apportionment.specs.Divisor.{weightOf, claimBefore, firstClaim, claimsMet, divisorSeats}
 use Rattle.apportionment.specs.declared.Method.{Method}
@@ -85,11 +85,6 @@ unfolding rounded
 rounded-at-most m P H p h =
     let whole : p * H / P ≤ H = div-le-of-le-mul P (mul-le-mul-right H h) in
     omega (arith, rounded-choice-at-most (less (averageClaim m P H) (methodClaim m p (p * H / P))) (p * H / P))
-
-map-bounded : (f : ℕ → ℕ) (xs : List ℕ) (top : ℕ) → ((i : ℕ) → f (getD xs i 0) ≤ top) → (i : ℕ) → getD (map f xs) i 0 ≤ top
-map-bounded f [] top h i = omega arith
-map-bounded f (x ∷ xs) top h zero = h zero
-map-bounded f (x ∷ xs) top h (suc i) = map-bounded f xs top (λ j. h (suc j)) i
 
 pub rounded-seats-at-most : (m : Method) (ps : List ℕ) (H i : ℕ) → getD (roundedSeats m ps H) i 0 ≤ H + 1
 unfolding roundedSeats

@@ -1,7 +1,5 @@
--- What holds of every element of a list, and of both picks of a test.
+-- What holds of every element of a list.
 -- Assumes nothing.
-use mathlib.Core.Path.{_≡_, refl}
-use mathlib.Core.Bool.{Bool, true, false, cond}
 use mathlib.Core.List.{List, [], _∷_, _++_, map}
 
 -- P holds of every element.
@@ -20,8 +18,3 @@ every-append P (x ∷ xs) ys h k = (h .0, every-append P xs ys (h .1) k)
 pub every-map : {A B : Type 0} (P : B → Type 0) (f : A → B) (xs : List A) → Every (λ (x : A). P (f x)) xs → Every P (map f xs)
 every-map P f [] h = tt
 every-map P f (x ∷ xs) h = (h .0, every-map P f xs (h .1))
-
--- What holds of each pick where the test makes it holds of the pick.
-pub cond-both : {A : Type 0} (P : A → Type 0) (b : Bool) (x y : A) → (b ≡ true → P x) → (b ≡ false → P y) → P (cond b x y)
-cond-both P true x y onTrue onFalse = onTrue refl
-cond-both P false x y onTrue onFalse = onFalse refl

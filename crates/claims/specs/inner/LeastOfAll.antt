@@ -10,9 +10,9 @@ use Prim.Native.Nat.{ℕ, _+_, _-_, _<_, _≤_}
 use native.Mathlib.Omega.{arith}
 use lib.ListN.{length}
 use Rattle.apportionment.specs.Lists.{sum, listOf}
+use Rattle.apportionment.specs.inner.Lists.{sum-listOf-one}
 use Rattle.apportionment.specs.Leximin.{sizeList, listLess, chosenBefore, leximinFor, startSeats, startTotal}
 use Rattle.claims.specs.inner.Order.{Standing, placedTimes, withdrawnTimes}
-use Rattle.claims.specs.inner.StandingMoves.{sum-listOf-one}
 use Rattle.claims.specs.inner.Standing.{placedTimes-standing, sum-placedTimes, withdrawnTimes-standing, sum-withdrawnTimes}
 use Rattle.claims.specs.inner.SizeClaims.{Sound, oneEach, sizeTest}
 use Rattle.claims.specs.inner.SizeShape.{le-or-lt}

@@ -11,10 +11,10 @@ use lib.Dec.{ltb}
 use lib.ListN.{length, getD}
 use borrow.Author.Tests.{ltb-true, ltb-false}
 use Rattle.apportionment.specs.Lists.{sum, listOf}
+use Rattle.apportionment.specs.inner.Lists.{sum-listOf-one}
 use Rattle.apportionment.specs.Quantities.{distance}
 use Rattle.apportionment.specs.Leximin.{startSeats, startTotal, gap, totalAfter, leximinFor}
 use Rattle.claims.specs.inner.Order.{Standing, placed, placedTimes, withdrawn, withdrawnTimes, endsApart}
-use Rattle.claims.specs.inner.StandingMoves.{sum-listOf-one}
 use Rattle.claims.specs.inner.Standing.{placedTimes-standing, sum-placedTimes, withdrawnTimes-standing, sum-withdrawnTimes}
 use Rattle.claims.specs.inner.Standing.{ends-standing, standing-ends}
 use Rattle.claims.specs.inner.SizeClaims.{sizeTest, oneEach, Sound}

@@ -18,7 +18,8 @@ use Rattle.apportionment.specs.Leximin.{sizesOf, sizeList, listLess, moreAtFirs
 use Rattle.claims.specs.inner.Order.{Standing}
 use Rattle.claims.specs.inner.SizeClaims.{Sound, oneEach, sizeTest, sizeBefore}
 use Rattle.claims.specs.inner.SizeOrder.{people, size-order}
-use Rattle.claims.specs.inner.Every.{Every, every-implied, cond-both}
+use Rattle.apportionment.specs.inner.Tests.{cond-both}
+use Rattle.claims.specs.inner.Every.{Every, every-implied}
 use Rattle.claims.specs.inner.Weights.{Over, factorial, factorial-pos, size-over, Weighing, coarser, weight, powers-weigh, total}
 use Rattle.claims.specs.inner.Weights.{sorted-order, move-order}
 use Rattle.claims.specs.inner.Allotments.{Allotment, every-allotment, in-allotments, winner-first}

@@ -19,7 +19,8 @@ use Rattle.claims.specs.inner.Order.{ClaimTest, ClaimOrder, Standing, co
 use Rattle.claims.specs.inner.StandingOrder.{Claim, claims-through, before-no-earlier, never-falls}
 use Rattle.claims.specs.inner.Standing.{firstUnmet-lt, firstUnmet-first}
 use Rattle.claims.specs.inner.SizeClaims.{oneEach}
-use Rattle.claims.specs.inner.Every.{cond-both}
+use Rattle.apportionment.specs.inner.Tests.{cond-both}
+use Rattle.claims.specs.inner.Every.{}
 use Rattle.claims.specs.inner.SizeShape.{le-or-lt}
 use Rattle.claims.specs.inner.Allotments.{Allotment}
 use Rattle.claims.specs.inner.StandingMoves.{le-same-sum}

@@ -3,14 +3,14 @@
 use mathlib.Core.Path.{_≡_, refl, sym, ap, _∙_}
 use mathlib.Core.Logic.{_≢_, _⊎_, inl, inr, ⊎-elim}
 use mathlib.Core.List.{List, [], _∷_}
-use Prim.Native.Nat.{ℕ, zero, suc, _+_, _-_, _*_, _<_, _≤_, suc-le-suc}
-use native.Mathlib.Nat.{suc-inj, suc-ne-zero, zero-lt-suc, le-of-suc-le-suc, not-suc-le-zero, eq-or-lt-of-le, suc-mul, zero-mul, mul-zero}
-use native.Mathlib.Nat.{mul-one}
+use Prim.Native.Nat.{ℕ, zero, suc, _+_, _-_, _<_, _≤_, suc-le-suc}
+use native.Mathlib.Nat.{suc-inj, suc-ne-zero, zero-lt-suc, le-of-suc-le-suc, not-suc-le-zero, eq-or-lt-of-le}
 use native.Mathlib.Decide.{decLt, ℕ-discrete}
 use native.Mathlib.Omega.{arith}
 use lib.ListN.{length, getD, set, length-set}
 use lib.Seq.{getD-set-same, getD-set-other}
 use Rattle.apportionment.specs.Lists.{sum, listOf}
+use Rattle.apportionment.specs.inner.Lists.{length-listOf, getD-listOf}
 use Rattle.apportionment.specs.Divisor.{oneMore}
 use Rattle.claims.specs.inner.Order.{oneLess}
 
@@ -124,18 +124,7 @@ nowhere-or-somewhere-above f g (suc n) = join (nowhere-or-somewhere-above f g n)
     join (inl nowhere) (no h) = inl (λ i below. ⊎-elim
         (λ (e : i ≡ n). omega (arith, h, ap f e, ap g e)) (nowhere i) (eq-or-lt-of-le (le-of-suc-le-suc below)))
 
--- ---- lists made of a function
-
-pub length-listOf : (f : ℕ → ℕ) (n : ℕ) → length (listOf f n) ≡ n
-unfolding listOf
-length-listOf f zero = refl
-length-listOf f (suc n) = ap suc (length-listOf (λ k. f (suc k)) n)
-
-pub getD-listOf : (f : ℕ → ℕ) (n i : ℕ) → i < n → getD (listOf f n) i 0 ≡ f i
-unfolding listOf
-getD-listOf f zero i h = absurd (not-suc-le-zero h)
-getD-listOf f (suc n) zero h = refl
-getD-listOf f (suc n) (suc i) h = getD-listOf (λ k. f (suc k)) n i (le-of-suc-le-suc h)
+-- ---- a list beside a function
 
 -- A larger sum than that of f's values is above f somewhere.
 pub somewhere-above : (f : ℕ → ℕ) (n : ℕ) (xs : List ℕ) → length xs ≡ n → sum (listOf f n) < sum xs
@@ -152,15 +141,3 @@ somewhere-above f n xs e h = found (nowhere-or-somewhere-above (λ i. getD xs i 
         let below : (i : ℕ) → i < length xs → getD xs i 0 ≤ getD (listOf f n) i 0 =
         λ i b. rw (getD-listOf f n i (rw e at b)) (nowhere i (rw e at b)) in
         absurd (omega (arith, h, sum-le xs (listOf f n) same-length below))
-
--- The fewest seats in all, where every state has the same.
-pub sum-listOf-constant : (c n : ℕ) → sum (listOf (λ _. c) n) ≡ n * c
-unfolding sum listOf
-sum-listOf-constant c zero = sym (zero-mul c)
-sum-listOf-constant c (suc n) = let rest = sum-listOf-constant c n in omega (arith, rest, suc-mul n c)
-
-pub sum-listOf-zero : (n : ℕ) → sum (listOf (λ _. 0) n) ≡ 0
-sum-listOf-zero n = sum-listOf-constant 0 n ∙ mul-zero n
-
-pub sum-listOf-one : (n : ℕ) → sum (listOf (λ _. 1) n) ≡ n
-sum-listOf-one n = sum-listOf-constant 1 n ∙ mul-one n

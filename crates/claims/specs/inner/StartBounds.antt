@@ -8,10 +8,11 @@ use native.Mathlib.Nat.{lt-of-mul-lt-mul-right}
 use native.Mathlib.Omega.{arith}
 use lib.ListN.{length, getD}
 use Rattle.apportionment.specs.Lists.{sum, listOf}
+use Rattle.apportionment.specs.inner.Lists.{length-listOf, getD-listOf, sum-listOf-one}
 use Rattle.apportionment.specs.Quantities.{distance}
 use Rattle.apportionment.specs.Leximin.{nearest, startSeats, startTotal, gap}
 use Rattle.claims.specs.inner.Order.{ClaimTest, Standing}
-use Rattle.claims.specs.inner.StandingMoves.{sum-le, length-listOf, getD-listOf, sum-listOf-one}
+use Rattle.claims.specs.inner.StandingMoves.{sum-le}
 use Rattle.claims.specs.inner.SizeClaims.{oneEach, Sound}
 use Rattle.claims.specs.inner.SizeOrder.{people}
 use Rattle.claims.specs.inner.StartNearest.{nearest-below, nearest-above}

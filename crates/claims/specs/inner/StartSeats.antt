@@ -1,14 +1,14 @@
 -- The start stands: with each state's nearest seats every claim met falls and no claim not met does.
 -- Assumes nothing.
-use mathlib.Core.Path.{_≡_, refl}
+use mathlib.Core.Path.{_≡_}
 use mathlib.Core.Bool.{true, false}
-use mathlib.Core.List.{List, [], _∷_, map}
+use mathlib.Core.List.{List}
 use mathlib.Core.Logic.{⊎-elim}
-use Prim.Native.Nat.{ℕ, zero, suc, _*_, _<_, _≤_, suc-le-suc, zero-le}
-use native.Mathlib.Nat.{le-refl, le-trans, le-of-lt, le-of-suc-le-suc, not-suc-le-zero, eq-or-lt-of-le}
+use Prim.Native.Nat.{ℕ, suc, _*_, _<_, _≤_, suc-le-suc, zero-le}
+use native.Mathlib.Nat.{le-refl, le-trans, le-of-lt, eq-or-lt-of-le}
 use lib.ListN.{length, getD, length-map}
 use Rattle.apportionment.specs.Lists.{sum}
-use Rattle.apportionment.specs.inner.Lists.{entry-at-most-sum}
+use Rattle.apportionment.specs.inner.Lists.{entry-at-most-sum, getD-map}
 use Rattle.apportionment.specs.Quantities.{Fraction, less}
 use Rattle.apportionment.specs.Leximin.{nearest, startSeats}
 use Rattle.claims.specs.inner.Order.{Standing}
@@ -57,14 +57,9 @@ pub length-start : (ps : List ℕ) (H : ℕ) → length (startSeats ps H) ≡ le
 unfolding startSeats
 length-start ps H = length-map ps _
 
-map-at : (f : ℕ → ℕ) (xs : List ℕ) (i : ℕ) → i < length xs → getD (map f xs) i 0 ≡ f (getD xs i 0)
-map-at f [] i h = absurd (not-suc-le-zero h)
-map-at f (x ∷ xs) zero h = refl
-map-at f (x ∷ xs) (suc i) h = map-at f xs i (le-of-suc-le-suc h)
-
 pub start-at : (ps : List ℕ) (H i : ℕ) → i < length ps → getD (startSeats ps H) i 0 ≡ nearest (getD ps i 0) (sum ps) H
 unfolding startSeats
-start-at ps H i h = map-at _ ps i h
+start-at ps H i h = getD-map _ ps i h
 
 module _ {ps : List ℕ} {H : ℕ} (s : Sound ps H) where
   pub state-nearest : (i : ℕ) → i < length ps → Nearest (getD ps i 0) (sum ps) H (nearest (getD ps i 0) (sum ps) H)

@@ -16,7 +16,8 @@ use borrow.Author.Tests.{lt-ltb, le-ltb}
 use Rattle.apportionment.specs.Quantities.{Fraction, less, sizeOf}
 use Rattle.apportionment.specs.Leximin.{insert, largestFirst, listLess}
 use Rattle.claims.specs.inner.Fractions.{less-true, less-false}
-use Rattle.claims.specs.inner.Every.{Every, every-implied, cond-both}
+use Rattle.apportionment.specs.inner.Tests.{cond-both}
+use Rattle.claims.specs.inner.Every.{Every, every-implied}
 use Rattle.claims.specs.inner.SizeClaims.{moveBefore}
 
 -- ---- a common denominator

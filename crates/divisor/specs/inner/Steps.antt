@@ -8,12 +8,11 @@ use native.Mathlib.Omega.{arith}
 use lib.ListN.{length, getD}
 use Rattle.apportionment.specs.Limits.{sumLimit}
 use Rattle.apportionment.specs.Lists.{sum, listOf}
-use Rattle.apportionment.specs.inner.Lists.{entry-at-most-sum}
+use Rattle.apportionment.specs.inner.Lists.{entry-at-most-sum, sum-listOf-zero}
 use Rattle.apportionment.specs.Divisor.{divisorSeats}
 use Rattle.apportionment.specs.declared.Method.{Method}
 use Rattle.claims.specs.inner.Order.{ClaimOrder, Standing}
 use Rattle.claims.specs.inner.DivisorClaims.{methodTest}
-use Rattle.claims.specs.inner.StandingMoves.{sum-listOf-zero}
 use Rattle.claims.specs.inner.Standing.{sum-placedTimes, placedTimes-standing, sum-withdrawnTimes, withdrawnTimes-standing}
 use Rattle.claims.specs.inner.DivisorRounding.{rounded-standing}
 use Rattle.claims.specs.inner.DivisorSeats.{rounded-seats-at-most, method-order, standing-is-divisor}

@@ -12,12 +12,12 @@ use lib.ListN.{length, getD, set}
 use Rattle.apportionment.specs.Divisor.{oneMore}
 use Rattle.apportionment.specs.Limits.{houseLimit}
 use Rattle.apportionment.specs.Lists.{sum, firstPlace}
-use Rattle.apportionment.specs.inner.Lists.{entry-at-most-sum}
+use Rattle.apportionment.specs.inner.Lists.{entry-at-most-sum, sum-listOf-one}
 use Rattle.apportionment.specs.Leximin.{startSeats}
 use Rattle.claims.specs.inner.Order.{ClaimTest, firstUnmet, lastMet, placed, placedTimes, oneLess, withdrawn, withdrawnTimes}
 use Rattle.claims.specs.inner.Standing.{firstUnmet-lt, lastMet-lt, length-placedTimes, sum-placedTimes, placedTimes-standing}
 use Rattle.claims.specs.inner.Standing.{length-withdrawnTimes, withdrawnTimes-standing}
-use Rattle.claims.specs.inner.StandingMoves.{sum-listOf-one, at-oneMore}
+use Rattle.claims.specs.inner.StandingMoves.{at-oneMore}
 use Rattle.claims.specs.inner.StartSeats.{length-start, start-at, start-standing}
 use Rattle.claims.specs.inner.DivisorSeats.{withdrawn-at-most}
 use Rattle.claims.specs.inner.SizeClaims.{Sound, sizeTest, oneEach}

@@ -1,12 +1,12 @@
 -- `remainders::drawn_up` meets its contract. The loop's invariant: the end is drawn in as far as the states passed allow. The measure is
 -- what is left of the list.
 -- Assumes nothing.
+use Rattle.apportionment.specs.inner.Lists.{count-none}
 use mathlib.Core.Path.{_≡_, sym, _∙_}
 use Prim.Native.Nat.{_-_, _≤_}
 use native.Mathlib.Omega.{arith}
 use lib.ListN.{length}
 use borrow.Author.Needs.{needs}
-use Rattle.remainders.specs.inner.Building.{count-none}
 use Rattle.remainders.specs.inner.Standing.{reaches}
 use Rattle.remainders.specs.inner.Search.{DrawnUp, drawn-up-on}
 use Rattle.remainders.proofs.drawn_up.Statement.{statement}

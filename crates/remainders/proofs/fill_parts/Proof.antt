@@ -8,9 +8,10 @@ use lib.ListN.{length, getD}
 use borrow.Author.Needs.{needs}
 use Rattle.apportionment.specs.Lists.{sum, listOf}
 use Rattle.apportionment.specs.Remainders.{wholePart}
+use Rattle.apportionment.specs.inner.Lists.{sum-listOf-more}
+use Rattle.apportionment.specs.inner.Filling.{FilledTo, fill-starts, fill-goes-on, fill-ends}
 use Rattle.remainders.specs.inner.WholeParts.{whole-part-is, product-fits, sum-above-zero, whole-parts-within}
 use Rattle.remainders.specs.inner.Standing.{standingOf, standingAt}
-use Rattle.remainders.specs.inner.Building.{sum-of-one-more, FilledTo, fill-starts, fill-goes-on, fill-ends}
 use Rattle.remainders.specs.inner.Seats.{Spans, spans-none, spans-on}
 use Rattle.remainders.proofs.fill_parts.Statement.{statement}
 use Rattle.remainders.proofs.fill_parts.Tie as tie
@@ -81,7 +82,7 @@ add-given c =
       arith,
       at-loop .loop .inv .2,
       whole-part-is ps (start .args .total) H i (start .pre .0 .totalIs),
-      sum-of-one-more (wholePart ps H) i,
+      sum-listOf-more (wholePart ps H) i,
       whole-parts-within ps H (i + 1) (start .pre .0 .passed),
       start .pre .0 .passed .houseWithin,
     )
@@ -116,7 +117,7 @@ loop-again c =
     let greatest = c .greater .ensures in (
       fill-goes-on _ _ _ _ _ (tested .loop-test .taken) own (so-far .0),
       fill-goes-on _ _ _ _ _ (tested .loop-test .taken) whole (so-far .1),
-      omega (arith, so-far .2, sum-of-one-more (wholePart ps H) i, whole),
+      omega (arith, so-far .2, sum-listOf-more (wholePart ps H) i, whole),
       spans-on _ _ _ _ _ _ _ (so-far .3) own least greatest,
     )
 

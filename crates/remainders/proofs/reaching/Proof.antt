@@ -1,13 +1,13 @@
 -- `remainders::reaching` meets its contract. The loop's invariant: the count is that of the states passed. The measure is what is left of
 -- the list.
 -- Assumes nothing.
+use Rattle.apportionment.specs.inner.Lists.{count-none, count-within}
 use mathlib.Core.Path.{_≡_, sym, ap, _∙_}
 use mathlib.Core.Logic.{⊎-elim}
 use Prim.Native.Nat.{_-_, _≤_}
 use native.Mathlib.Omega.{arith}
 use lib.ListN.{length}
 use borrow.Author.Needs.{needs}
-use Rattle.remainders.specs.inner.Building.{count-none, count-within}
 use Rattle.remainders.specs.inner.Standing.{count-reached, count-passed-by, reaches}
 use Rattle.remainders.specs.inner.Bar.{reaching}
 use Rattle.remainders.proofs.reaching.Statement.{statement}

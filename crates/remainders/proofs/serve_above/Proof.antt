@@ -1,12 +1,12 @@
 -- `remainders::serve_above` meets its contract. The loop's invariant: the states passed are served, and those to come have the seats they
 -- had. The measure is what is left of the list.
 -- Assumes nothing.
+use Rattle.apportionment.specs.inner.Filling.{FilledTo, fill-goes-on, fill-ends, rest-is-kept}
 use mathlib.Core.Path.{_≡_, refl}
 use Prim.Native.Nat.{ℕ, _-_, _≤_}
 use native.Mathlib.Omega.{arith}
 use lib.ListN.{length, getD}
 use borrow.Author.Needs.{needs}
-use Rattle.remainders.specs.inner.Building.{FilledTo, fill-goes-on, fill-ends, rest-is-kept}
 use Rattle.remainders.specs.inner.Bar.{at-most-one-served}
 use Rattle.remainders.specs.inner.Seats.{servedFromAt, served-from-here, serving-from-starts}
 use Rattle.remainders.proofs.serve_above.Statement.{statement}

@@ -1,12 +1,12 @@
 -- `remainders::serve_spare` meets its contract. The loop's invariant: the states passed are served, those to come have the seats they had,
 -- and `rest` is what is to spare. The measure is what is left of the list.
 -- Assumes nothing.
+use Rattle.apportionment.specs.inner.Filling.{FilledTo, fill-starts, fill-goes-on, rest-is-kept}
 use mathlib.Core.Path.{_≡_, refl, sym, ap, _∙_}
 use Prim.Native.Nat.{ℕ, _-_, _≤_}
 use native.Mathlib.Omega.{arith}
 use lib.ListN.{length, getD}
 use borrow.Author.Needs.{needs}
-use Rattle.remainders.specs.inner.Building.{FilledTo, fill-starts, fill-goes-on, rest-is-kept}
 use Rattle.remainders.specs.inner.Bar.{extraBy, spareAfter, spareAt, spare-one-more, at-most-one-served}
 use Rattle.remainders.specs.inner.Seats.{servedAt}
 use Rattle.remainders.proofs.serve_spare.Statement.{statement}

@@ -9,8 +9,8 @@ use native.Mathlib.Numerals.{add-one}
 use lib.ListN.{length, getD}
 use Rattle.apportionment.specs.Lists.{sum, listOf}
 use Rattle.apportionment.specs.Remainders.{wholePart, seatsLeft, remainderSeats}
+use Rattle.apportionment.specs.inner.Lists.{listOf-places, length-listOf, sum-listOf-none, sum-listOf-more, sum-listOf-both, count-none}
 use Rattle.problem.specs.inner.Passed.{Passed}
-use Rattle.remainders.specs.inner.Building.{list-of-places, length-of, sum-of-none, sum-of-one-more, sum-of-both, count-none}
 use Rattle.remainders.specs.inner.WholeParts.{wholeParts, whole-parts-within, left-within-states}
 use Rattle.remainders.specs.inner.Standing.{standingAt, standingsOf, extraIn, reaches}
 use Rattle.remainders.specs.inner.Bar.{reaching, Bar, bar-exists, spareAt, spareFor, spare-is, one-more-served, served-by-rank}
@@ -23,13 +23,13 @@ module _ (xs : List ℕ) (left bar : ℕ) (b : Bar xs left bar) where
   seats-of-first : (k : ℕ) → k ≤ length xs
       → sum (listOf (extraIn xs left) k) + spareAt xs bar (spareFor xs left bar) k ≡ reaching xs (bar + 1) k + spareFor xs left bar
   unfolding spareAt
-  seats-of-first zero h = omega (arith, sum-of-none (extraIn xs left), count-none (reaches xs (bar + 1)))
+  seats-of-first zero h = omega (arith, sum-listOf-none (extraIn xs left), count-none (reaches xs (bar + 1)))
   seats-of-first (suc k) h =
       let spare = spareAt xs bar (spareFor xs left bar) k in
       rw (← (add-one k))
       (omega (
         arith,
-        sum-of-one-more (extraIn xs left) k,
+        sum-listOf-more (extraIn xs left) k,
         served-by-rank xs left bar b k (omega arith),
         one-more-served xs bar spare k,
         seats-of-first k (omega arith),
@@ -57,10 +57,10 @@ seats-sum-to-house ps H ok =
     let xs = standingsOf ps H in
     let wholes = wholeParts ps H in
     let left = seatsLeft ps H in
-    let long : length xs ≡ length ps = length-of (standingAt ps H) (length ps) in
-    let same : length wholes ≡ length xs = length-of (wholePart ps H) (length ps) ∙ sym long in
+    let long : length xs ≡ length ps = length-listOf (standingAt ps H) (length ps) in
+    let same : length wholes ≡ length xs = length-listOf (wholePart ps H) (length ps) ∙ sym long in
     let gone : sum (listOf (extraIn xs left) (length wholes)) ≡ left
     = rw same (extras-are-left xs left (omega (arith, left-within-states ps H ok))) in
-    let parts : sum (listOf (λ (i : ℕ). getD wholes i 0) (length wholes)) ≡ sum wholes = ap sum (list-of-places wholes) in
-    let both = sum-of-both (λ (i : ℕ). getD wholes i 0) (extraIn xs left) (length wholes) in
+    let parts : sum (listOf (λ (i : ℕ). getD wholes i 0) (length wholes)) ≡ sum wholes = ap sum (listOf-places wholes) in
+    let both = sum-listOf-both (λ (i : ℕ). getD wholes i 0) (extraIn xs left) (length wholes) in
     ap sum (sym (parts-are-allotted ps H)) ∙ both ∙ omega (arith, whole-parts-within ps H (length ps) ok)

@@ -11,8 +11,9 @@ use lib.ListN.{length, getD}
 use borrow.Author.Tests.{ltb-true, ltb-false, lt-ltb, le-ltb, eqb-true, eqb-false}
 use Rattle.apportionment.specs.Lists.{sum, listOf}
 use Rattle.apportionment.specs.Remainders.{wholePart, seatsLeft, remainderSeatsAt, remainderSeats}
+use Rattle.apportionment.specs.inner.Lists.{length-listOf, getD-listOf, is-listOf, listOf-agrees, sum-listOf-more}
+use Rattle.apportionment.specs.inner.Filling.{FilledTo}
 use Rattle.problem.specs.inner.Passed.{Passed}
-use Rattle.remainders.specs.inner.Building.{length-of, getD-of, is-list-of, list-of-agrees, sum-of-one-more, FilledTo}
 use Rattle.remainders.specs.inner.WholeParts.{wholeParts, whole-parts-within, left-within-states}
 use Rattle.remainders.specs.inner.Standing.{standingAt, standingsOf, extraIn, rank-is, withExtraAt, withExtra}
 use Rattle.remainders.specs.inner.Bar.{all-reach, none-above, Bar, extraBy, spareAt, no-more-to-spare, spareFor, served-by-rank}
@@ -62,14 +63,14 @@ pub record HasRoom (xs seats : List ℕ) : Type 0 where
 
 parts-have-room : (ps : List ℕ) (H : ℕ) → Passed ps H → HasRoom (standingsOf ps H) (wholeParts ps H)
 parts-have-room ps H ok = record {
-  sameLength = length-of (wholePart ps H) (length ps) ∙ sym long;
+  sameLength = length-listOf (wholePart ps H) (length ps) ∙ sym long;
   seatsFit = λ (i : ℕ) (h : i < length (standingsOf ps H)).
-      rw (getD-of (wholePart ps H) (length ps) i (omega (arith, long)))
-      (omega (arith, sum-of-one-more (wholePart ps H) i, whole-parts-within ps H (i + 1) ok, ok .houseWithin));
+      rw (getD-listOf (wholePart ps H) (length ps) i (omega (arith, long)))
+      (omega (arith, sum-listOf-more (wholePart ps H) i, whole-parts-within ps H (i + 1) ok, ok .houseWithin));
 }
   where
     long : length (standingsOf ps H) ≡ length ps
-    long = length-of (standingAt ps H) (length ps)
+    long = length-listOf (standingAt ps H) (length ps)
 
 pub has-room : (ps : List ℕ) (H : ℕ) (xs seats : List ℕ) → Passed ps H
     → xs ≡ standingsOf ps H → seats ≡ wholeParts ps H → HasRoom xs seats
@@ -87,10 +88,10 @@ is-searchable ps H xs seats r ok filled = record {
 }
   where
     long : length xs ≡ length ps
-    long = ap length (filled .standingsAre) ∙ length-of (standingAt ps H) (length ps)
+    long = ap length (filled .standingsAre) ∙ length-listOf (standingAt ps H) (length ps)
 
     stands : (i : ℕ) → i < length xs → getD xs i 0 ≡ standingAt ps H i
-    stands i h = ap (λ (l : List ℕ). getD l i 0) (filled .standingsAre) ∙ getD-of (standingAt ps H) (length ps) i (omega (arith, long))
+    stands i h = ap (λ (l : List ℕ). getD l i 0) (filled .standingsAre) ∙ getD-listOf (standingAt ps H) (length ps) i (omega (arith, long))
 
     below : (i : ℕ) → i < length xs → r .least ≤ getD xs i 0
     below i h = rw (stands i h) (filled .spans .low i (omega (arith, long)))
@@ -150,13 +151,13 @@ room-from xs bar spare before place after room s = record {
 pub served-in-parts : (xs : List ℕ) (bar spare : ℕ) (before : List ℕ) (place : ℕ) (after : List ℕ) → HasRoom xs before
     → ServedTo xs bar spare before place after → servedFrom xs bar place after ≡ served xs bar spare before
 served-in-parts xs bar spare before place after room s =
-    is-list-of
+    is-listOf
     (servedFrom xs bar place after)
     (servedAt xs bar spare before)
     (length before)
-    (length-of (servedFromAt xs bar place after) (length after) ∙ s .done .long)
+    (length-listOf (servedFromAt xs bar place after) (length after) ∙ s .done .long)
     (λ (i : ℕ) (h : i < length before).
-    getD-of (servedFromAt xs bar place after) (length after) i (omega (arith, s .done .long)) ∙ by-place i h (ltb i place) refl)
+    getD-listOf (servedFromAt xs bar place after) (length after) i (omega (arith, s .done .long)) ∙ by-place i h (ltb i place) refl)
   where
     by-place : (i : ℕ) → i < length before → (t : Bool) → ltb i place ≡ t
         → servedFromAt xs bar place after i ≡ servedAt xs bar spare before i
@@ -170,7 +171,7 @@ served-in-parts xs bar spare before place after room s =
 pub served-is : (xs : List ℕ) (left bar spare : ℕ) (seats : List ℕ) → Bar xs left bar → length seats ≡ length xs
     → spare ≡ spareFor xs left bar → served xs bar spare seats ≡ withExtra xs left seats
 served-is xs left bar spare seats b same e =
-    list-of-agrees
+    listOf-agrees
     (servedAt xs bar spare seats)
     (withExtraAt xs left seats)
     (length seats)
@@ -180,23 +181,23 @@ served-is xs left bar spare seats b same e =
 seat-is-allotted : (ps : List ℕ) (H i : ℕ) → i < length ps
     → withExtraAt (standingsOf ps H) (seatsLeft ps H) (wholeParts ps H) i ≡ remainderSeatsAt ps H i
 unfolding remainderSeatsAt extraIn
-seat-is-allotted ps H i h = rw (getD-of (wholePart ps H) (length ps) i h, rank-is ps H i h)
+seat-is-allotted ps H i h = rw (getD-listOf (wholePart ps H) (length ps) i h, rank-is ps H i h)
 
 pub parts-are-allotted : (ps : List ℕ) (H : ℕ) → withExtra (standingsOf ps H) (seatsLeft ps H) (wholeParts ps H) ≡ remainderSeats ps H
 unfolding remainderSeats
 parts-are-allotted ps H =
-    is-list-of
+    is-listOf
     (withExtra (standingsOf ps H) (seatsLeft ps H) (wholeParts ps H))
     (remainderSeatsAt ps H)
     (length ps)
-    (length-of each (length (wholeParts ps H)) ∙ long)
-    (λ (i : ℕ) (h : i < length ps). getD-of each (length (wholeParts ps H)) i (omega (arith, long)) ∙ seat-is-allotted ps H i h)
+    (length-listOf each (length (wholeParts ps H)) ∙ long)
+    (λ (i : ℕ) (h : i < length ps). getD-listOf each (length (wholeParts ps H)) i (omega (arith, long)) ∙ seat-is-allotted ps H i h)
   where
     each : ℕ → ℕ
     each = withExtraAt (standingsOf ps H) (seatsLeft ps H) (wholeParts ps H)
 
     long : length (wholeParts ps H) ≡ length ps
-    long = length-of (wholePart ps H) (length ps)
+    long = length-listOf (wholePart ps H) (length ps)
 
 pub seats-are-allotted : (ps : List ℕ) (H : ℕ) (xs seats : List ℕ) (given : ℕ)
     → xs ≡ standingsOf ps H → seats ≡ wholeParts ps H → given ≡ sum (wholeParts ps H)

@@ -12,7 +12,7 @@ use lib.ListN.{length, getD}
 use borrow.Author.Tests.{ltb-true, ltb-false, lt-ltb, le-ltb, le-leb, lt-leb}
 use Rattle.apportionment.specs.Lists.{sum, countBelow, listOf}
 use Rattle.apportionment.specs.Remainders.{remainder, standsBefore, rank}
-use Rattle.remainders.specs.inner.Building.{length-of, getD-of, count-one-more, count-agrees, count-splits}
+use Rattle.apportionment.specs.inner.Lists.{length-listOf, getD-listOf, count-one-more, count-agrees, count-splits}
 
 -- The standing of a state of population p: its remainder.
 unfoldable pub standingOf : (p P H : ℕ) → ℕ
@@ -53,13 +53,13 @@ pub standing-decides : (ps : List ℕ) (H i j : ℕ) → i < length ps → j < l
     → standsBefore ps H i j ≡ higher (standingsOf ps H) i j
 unfolding standsBefore remainder higher standingOf
 standing-decides ps H i j hi hj =
-    simp (getD-of (standingAt ps H) (length ps) i hi, getD-of (standingAt ps H) (length ps) j hj)
+    simp (getD-listOf (standingAt ps H) (length ps) i hi, getD-listOf (standingAt ps H) (length ps) j hj)
 
 -- So ranks are those of the standings.
 pub rank-is : (ps : List ℕ) (H i : ℕ) → i < length ps → rank ps H i ≡ rankIn (standingsOf ps H) i
 unfolding rank rankIn
 rank-is ps H i hi =
-    rw (length-of (standingAt ps H) (length ps))
+    rw (length-listOf (standingAt ps H) (length ps))
     (count-agrees
     (standsBefore ps H i)
     (higher (standingsOf ps H) i)

@@ -10,10 +10,9 @@ use native.Mathlib.Nat.{mul-le-mul-right}
 use lib.ListN.{length, getD}
 use Rattle.apportionment.specs.Limits.{sumLimit, houseLimit}
 use Rattle.apportionment.specs.Lists.{sum, listOf}
-use Rattle.apportionment.specs.inner.Lists.{entry-at-most-sum}
+use Rattle.apportionment.specs.inner.Lists.{entry-at-most-sum, listOf-places, sum-listOf-places, sum-listOf-scaled, sum-listOf-both, sum-listOf-one}
 use Rattle.apportionment.specs.Remainders.{wholePart, seatsLeft}
 use Rattle.problem.specs.inner.Passed.{Passed}
-use Rattle.remainders.specs.inner.Building.{list-of-places, sum-of-places, sum-of-scaled, sum-of-both, sum-of-ones}
 
 -- What the functions of this crate are given: populations and a house that passed the checks, their sum, and a list to fill.
 pub record Given (ps : List ℕ) (P H : ℕ) (room : List ℕ) : Type 0 where
@@ -46,8 +45,8 @@ unfolding wholePart
 whole-parts-within ps H k ok =
     le-of-mul-le-mul-right
     (le-trans
-    (sum-of-scaled (wholePart ps H) (λ (i : ℕ). getD ps i 0) (sum ps) H (λ (i : ℕ). div-mul-le-self (getD ps i 0 * H) (sum ps)) k)
-    (rw (mul-comm H (sum ps)) (mul-le-mul-right H (sum-of-places ps k))))
+    (sum-listOf-scaled (wholePart ps H) (λ (i : ℕ). getD ps i 0) (sum ps) H (λ (i : ℕ). div-mul-le-self (getD ps i 0 * H) (sum ps)) k)
+    (rw (mul-comm H (sum ps)) (mul-le-mul-right H (sum-listOf-places ps k))))
     (sum-above-zero ps H ok)
 
 -- With one seat more, a state has at least its share.
@@ -62,6 +61,6 @@ unfolding seatsLeft
 left-within-states ps H ok =
     let more : ℕ → ℕ = λ (i : ℕ). wholePart ps H i + 1 in
     let reach : sum ps * H ≤ sum (listOf more (length ps)) * sum ps
-    = rw (list-of-places ps) at (sum-of-scaled (λ (i : ℕ). getD ps i 0) more H (sum ps) (one-more-reaches ps H ok) (length ps)) in
+    = rw (listOf-places ps) at (sum-listOf-scaled (λ (i : ℕ). getD ps i 0) more H (sum ps) (one-more-reaches ps H ok) (length ps)) in
     let house : H ≤ sum (listOf more (length ps)) = le-of-mul-le-mul-right (rw (mul-comm H (sum ps)) reach) (sum-above-zero ps H ok) in
-    omega (arith, sum-of-both (wholePart ps H) (λ (i : ℕ). 1) (length ps), sum-of-ones (length ps))
+    omega (arith, sum-listOf-both (wholePart ps H) (λ (i : ℕ). 1) (length ps), sum-listOf-one (length ps))
