@@ -1,10 +1,9 @@
 -- `problem_refusal` makes the checks of its list in their order: each `return` rewrites the list by those that led there.
 -- Assumes nothing.
-use mathlib.Core.Path.{_≡_, _∙_, sym}
-use mathlib.Core.Bool.{false}
+use mathlib.Core.Path.{_∙_, sym}
 use borrow.Author.Needs.{needs}
 use Rattle.apportionment.specs.Checks.{firstRefusal}
-use Rattle.apportionment.specs.Allotment.{statesOutside, houseOutside, hasZero, problemChecks}
+use Rattle.apportionment.specs.Allotment.{problemChecks}
 use Rattle.problem.specs.inner.Passed.{problemRefusal}
 use Rattle.problem.proofs.problem_refusal.Statement.{statement}
 use Rattle.problem.proofs.problem_refusal.Tie as tie

@@ -1,7 +1,6 @@
 -- `sum_outside`: the total as the code adds it up passes the limit exactly where the sum does.
 -- Assumes nothing.
 use borrow.Author.Needs.{needs}
-use lib.ListN.{length}
 use Rattle.apportionment.specs.Allotment.{sumOutside}
 use Rattle.problem.specs.inner.Total.{total-tells}
 use Rattle.problem.proofs.sum_outside.Statement.{statement}

@@ -4,15 +4,17 @@
 use mathlib.Core.Path.{_≡_, refl, sym, _∙_}
 use mathlib.Core.Bool.{Bool, true, false, cond}
 use mathlib.Core.List.{List, _++_}
-use Prim.Native.Nat.{ℕ, _≤_, _<_}
+use Prim.Native.Nat.{ℕ, _≤_}
 use native.Mathlib.Omega.{arith}
 use lib.Dec.{eqb}
-use lib.ListN.{length, getD}
+use lib.ListN.{length}
 use borrow.Author.Tests.{eqb-true, eqb-false, ltb-false, not-false}
 use Rattle.apportionment.specs.Limits.{stateLimit, houseLimit, sumLimit}
 use Rattle.apportionment.specs.Refusals.{accepted, statesOutOfLimits, houseOutOfLimits, populationZero, sumTooLarge}
 use Rattle.apportionment.specs.Checks.{firstRefusal}
 use Rattle.apportionment.specs.inner.Checks.{inside-limits, check-passed}
+use Rattle.apportionment.specs.inner.Problem.{Problem}
+use Rattle.apportionment.specs.inner.Tests.{either-way}
 use Rattle.apportionment.specs.Lists.{sum}
 use Rattle.apportionment.specs.Allotment.{statesOutside, houseOutside, hasZero, sumOutside, listMisfits, seatsEveryState, seatsTooFew}
 use Rattle.apportionment.specs.Allotment.{problemChecks, allotRefusal, openRefusal}
@@ -20,24 +22,15 @@ use Rattle.apportionment.specs.declared.Method.{Method}
 use Rattle.apportionment.specs.declared.Method.the-variants.{Leximin}
 use Rattle.problem.specs.inner.Populations.{each-is-peopled}
 
--- Populations and a house within the limits.
-pub record Passed (ps : List ℕ) (H : ℕ) : Type 0 where
-  pub someState : 0 < length ps
-  pub statesWithin : length ps ≤ stateLimit
-  pub someSeat : 0 < H
-  pub houseWithin : H ≤ houseLimit
-  pub peopled : (i : ℕ) → i < length ps → 0 < getD ps i 0
-  pub sumWithin : sum ps ≤ sumLimit
-
--- The same for allotting, with a seat list of the right length and, where each state has a seat, a house large enough.
-pub record AllotPassed (m : Method) (H : ℕ) (ps : List ℕ) (room : ℕ) : Type 0 where
-  pub problem : Passed ps H
+-- What allotting adds to a problem: a seat list of the right length and, where each state has a seat, a house large enough.
+pub record Allottable (m : Method) (H : ℕ) (ps : List ℕ) (room : ℕ) : Type 0 where
+  pub problem : Problem ps (sum ps) H
   pub roomFits : room ≡ length ps
   pub seatForEach : seatsEveryState m ≡ true → length ps ≤ H
 
--- The same for opening.
-pub record OpenPassed (ps : List ℕ) (H : ℕ) : Type 0 where
-  pub problem : Passed ps H
+-- What opening adds: a seat for each state.
+pub record Openable (ps : List ℕ) (H : ℕ) : Type 0 where
+  pub problem : Problem ps (sum ps) H
   pub seatForEach : length ps ≤ H
 
 -- ---- the checks that allotting and opening share
@@ -68,16 +61,15 @@ problem-then ps H later = by-tests (statesOutside ps) (houseOutside H) (hasZero 
 -- Where nothing is refused, neither by these nor by those after them.
 both-pass : (ps : List ℕ) (H : ℕ) (later : List (Bool × ℕ)) → firstRefusal (problemChecks ps H ++ later) ≡ accepted
     → (problemRefusal ps H ≡ accepted) × (firstRefusal later ≡ accepted)
-both-pass ps H later e = by-test (eqb (problemRefusal ps H) accepted) refl (sym (problem-then ps H later) ∙ e)
-  where
-    by-test : (t : Bool) → eqb (problemRefusal ps H) accepted ≡ t → cond t (firstRefusal later) (problemRefusal ps H) ≡ accepted
-        → (problemRefusal ps H ≡ accepted) × (firstRefusal later ≡ accepted)
-    by-test true t n = (eqb-true (problemRefusal ps H) accepted t, n)
-    by-test false t n = absurd (eqb-false (problemRefusal ps H) accepted t n)
+both-pass ps H later e =
+    let joined = sym (problem-then ps H later) ∙ e in
+    either-way (eqb (problemRefusal ps H) accepted)
+    (λ none. (eqb-true (problemRefusal ps H) accepted none, rw none at joined))
+    (λ some. absurd (eqb-false (problemRefusal ps H) accepted some (rw some at joined)))
 
 -- ---- all checks
 
-pub checks-passed : (ps : List ℕ) (H : ℕ) → problemRefusal ps H ≡ accepted → Passed ps H
+pub checks-passed : (ps : List ℕ) (H : ℕ) → problemRefusal ps H ≡ accepted → Problem ps (sum ps) H
 unfolding problemRefusal problemChecks statesOutside houseOutside sumOutside
 checks-passed ps H e =
     let states = check-passed (statesOutside ps) _ _ (omega arith) e in
@@ -85,12 +77,15 @@ checks-passed ps H e =
     let people = check-passed (hasZero ps) _ _ (omega arith) (house .1) in
     let total = check-passed (sumOutside ps) _ _ (omega arith) (people .1) in
     record {
-      someState = inside-limits stateLimit (length ps) (states .0) .0;
-      statesWithin = inside-limits stateLimit (length ps) (states .0) .1;
+      states = record {
+        someState = inside-limits stateLimit (length ps) (states .0) .0;
+        statesWithin = inside-limits stateLimit (length ps) (states .0) .1;
+        peopled = each-is-peopled ps (people .0);
+        sums = refl;
+        sumWithin = ltb-false sumLimit (sum ps) (total .0);
+      };
       someSeat = inside-limits houseLimit H (house .0) .0;
       houseWithin = inside-limits houseLimit H (house .0) .1;
-      peopled = each-is-peopled ps (people .0);
-      sumWithin = ltb-false sumLimit (sum ps) (total .0);
     }
 
 -- 15 is not given, so a method that seats every state has a seat for each.
@@ -98,7 +93,7 @@ house-passed : (m : Method) (ps : List ℕ) (H : ℕ) → seatsTooFew m ps H ≡
 unfolding seatsTooFew
 house-passed m ps H e every = ltb-false H (length ps) (simp every at e)
 
-pub allot-passed : (m : Method) (H : ℕ) (ps : List ℕ) (room : ℕ) → allotRefusal m H ps room ≡ accepted → AllotPassed m H ps room
+pub allot-passed : (m : Method) (H : ℕ) (ps : List ℕ) (room : ℕ) → allotRefusal m H ps room ≡ accepted → Allottable m H ps room
 unfolding allotRefusal listMisfits
 allot-passed m H ps room e =
     let both = both-pass ps H _ e in
@@ -110,7 +105,7 @@ allot-passed m H ps room e =
       seatForEach = house-passed m ps H (seats .0);
     }
 
-pub open-passed : (ps : List ℕ) (H : ℕ) → openRefusal ps H ≡ accepted → OpenPassed ps H
+pub open-passed : (ps : List ℕ) (H : ℕ) → openRefusal ps H ≡ accepted → Openable ps H
 unfolding openRefusal seatsEveryState
 open-passed ps H e =
     let both = both-pass ps H _ e in

@@ -2,7 +2,7 @@
 -- them, and so may whoever adds up populations.
 -- Assumes nothing.
 use mathlib.Core.Path.{_≡_, refl}
-use mathlib.Core.Bool.{Bool, true, false, cond}
+use mathlib.Core.Bool.{Bool, true, false}
 use mathlib.Core.List.{List, [], _∷_}
 use Prim.Native.Nat.{ℕ, zero, suc, _+_, _≤_, _<_}
 use native.Mathlib.Omega.{arith}
@@ -12,6 +12,7 @@ use lib.ListN.{length, getD, drop, drop-of-length-le}
 use lib.Seq.{drop-cons}
 use borrow.Author.Tests.{eq-eqb, ne-eqb}
 use Rattle.apportionment.specs.Lists.{sum}
+use Rattle.apportionment.specs.inner.Tests.{cond-both}
 use Rattle.apportionment.specs.Allotment.{hasZero}
 
 -- ---- a population of 0
@@ -21,11 +22,8 @@ pub zero-is-found : (ps : List ℕ) (i : ℕ) → i < length ps → getD ps i 0 
 unfolding hasZero
 zero-is-found [] i h e = absurd (omega arith)
 zero-is-found (p ∷ ps) zero h e = simp (eq-eqb p 0 e)
-zero-is-found (p ∷ ps) (suc i) h e = by-first (eqb p 0) (zero-is-found ps i (omega arith) e)
-  where
-    by-first : (t : Bool) → hasZero ps ≡ true → cond t true (hasZero ps) ≡ true
-    by-first true later = refl
-    by-first false later = later
+zero-is-found (p ∷ ps) (suc i) h e =
+    cond-both (λ (b : Bool). b ≡ true) (eqb p 0) true (hasZero ps) (λ _. refl) (λ _. zero-is-found ps i (omega arith) e)
 
 -- Where no place has a population of 0, none is found.
 pub none-is-zero : (ps : List ℕ) → ((i : ℕ) → i < length ps → getD ps i 0 ≡ 0 → ⊥) → hasZero ps ≡ false
