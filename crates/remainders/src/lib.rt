@@ -4,7 +4,7 @@ ghost use mathlib.Core.Path.{_≡_};
 ghost use Prim.Native.Nat.{_*_, _/_, _^_, _≤_, _<_, min, max};
 ghost use lib.ListN.{length};
 ghost use Rattle.apportionment.specs.Remainders.{remainderSeats};
-ghost use Rattle.remainders.specs.inner.WholeParts.{Given};
+ghost use Rattle.apportionment.specs.inner.Problem.{Fillable};
 ghost use Rattle.remainders.specs.inner.Standing.{standingOf, withExtra};
 ghost use Rattle.remainders.specs.inner.Bar.{reaching, extraBy, spareAfter};
 ghost use Rattle.remainders.specs.inner.Search.{NotBelow, NotAbove, DrawnUp, DrawnDown, HoldsBar, Narrower, Searchable, BarFound};
@@ -56,7 +56,7 @@ fn fill_parts(
     standings: &mut [u64],
     seats: &mut [u64],
 ) -> Parts
-    requires { ⌜ Given (now populations) total house (now seats) ⌝ }
+    requires { ⌜ Fillable (now populations) total house (now seats) ⌝ }
     requires { ⌜ length (now standings) ≡ length (now populations) ⌝ }
     ensures { λ r. ⌜ Filled (now (populations .entry)) house (now (standings .exit)) (now (seats .exit)) r ⌝ }
 {
@@ -341,7 +341,7 @@ fn fill_with_room(
     standings: &mut [u64],
     seats: &mut [u64],
 )
-    requires { ⌜ Given (now populations) total house (now seats) ⌝ }
+    requires { ⌜ Fillable (now populations) total house (now seats) ⌝ }
     requires { ⌜ length (now standings) ≡ length (now populations) ⌝ }
     ensures { λ _. ⌜ now (seats .exit) ≡ remainderSeats (now (populations .entry)) house ⌝ }
 {
@@ -357,7 +357,7 @@ fn fill_with_room(
 
 // Fills `seats` with the allotment of largest remainders.
 pub fn fill_remainders(populations: &[u64], total: u64, house: u64, seats: &mut [u64])
-    requires { ⌜ Given (now populations) total house (now seats) ⌝ }
+    requires { ⌜ Fillable (now populations) total house (now seats) ⌝ }
     ensures { λ _. ⌜ now (seats .exit) ≡ remainderSeats (now (populations .entry)) house ⌝ }
 {
     let states = populations.len();

@@ -9,8 +9,9 @@ use borrow.Author.Needs.{needs}
 use Rattle.apportionment.specs.Lists.{sum, listOf}
 use Rattle.apportionment.specs.Remainders.{wholePart}
 use Rattle.apportionment.specs.inner.Lists.{sum-listOf-more}
+use Rattle.apportionment.specs.inner.Problem.{sum-above-zero}
 use Rattle.apportionment.specs.inner.Filling.{FilledTo, fill-starts, fill-goes-on, fill-ends}
-use Rattle.remainders.specs.inner.WholeParts.{whole-part-is, product-fits, sum-above-zero, whole-parts-within}
+use Rattle.remainders.specs.inner.WholeParts.{share-fits, whole-part-is, whole-parts-within}
 use Rattle.remainders.specs.inner.Standing.{standingOf, standingAt}
 use Rattle.remainders.specs.inner.Seats.{Spans, spans-none, spans-on}
 use Rattle.remainders.proofs.fill_parts.Statement.{statement}
@@ -31,7 +32,7 @@ loop-holds : tie.Need-loop-holds Inv-loop μ-loop
 unfolding listOf sum
 loop-holds c =
     let start = c .before .before .before in
-    (fill-starts _ _ _ (start .pre .1), fill-starts _ _ _ (start .pre .0 .roomFits), refl, spans-none _ _ _)
+    (fill-starts _ _ _ (start .pre .1), fill-starts _ _ _ (start .pre .0 .sameLength), refl, spans-none _ _ _)
 
 mul-population : tie.Need-mul-population Inv-loop μ-loop
 mul-population c = search needs
@@ -43,21 +44,19 @@ mul-whole : tie.Need-mul-whole Inv-loop μ-loop
 mul-whole c =
     let at-loop = c .before .before in
     let start = at-loop .before .before .before .before in
-    let i = at-loop .loop .i in
-    record { fits = product-fits (start .args .populations .now) (start .args .house) i (start .pre .0 .passed) }
+    share-fits (start .pre .0 .problem) (at-loop .loop .i)
 
 div-whole : tie.Need-div-whole Inv-loop μ-loop
 div-whole c =
     let at-loop = c .before .before in
     let start = at-loop .before .before .before .before in
-    let some = sum-above-zero (start .args .populations .now) (start .args .house) (start .pre .0 .passed) in
-    omega (arith, some, start .pre .0 .totalIs)
+    omega (arith, sum-above-zero (start .pre .0 .problem .states))
 
 standing-requires : tie.Need-standing-requires Inv-loop μ-loop
 standing-requires c κs =
     let at-loop = c .before .before in
     let start = at-loop .before .before .before .before in
-    (product-fits (start .args .populations .now) (start .args .house) (at-loop .loop .i) (start .pre .0 .passed), refl)
+    (share-fits (start .pre .0 .problem) (at-loop .loop .i) .fits, refl)
 
 mul-seats : tie.Need-mul-seats Inv-loop μ-loop
 mul-seats c = search needs
@@ -75,16 +74,15 @@ add-given : tie.Need-add-given Inv-loop μ-loop
 add-given c =
     let at-loop = c .before .before .before in
     let start = at-loop .before .before .before .before in
-    let ps = start .args .populations .now in
-    let H = start .args .house in
+    let ok = start .pre .0 .problem in
     let i = at-loop .loop .i in
     omega (
       arith,
       at-loop .loop .inv .2,
-      whole-part-is ps (start .args .total) H i (start .pre .0 .totalIs),
-      sum-listOf-more (wholePart ps H) i,
-      whole-parts-within ps H (i + 1) (start .pre .0 .passed),
-      start .pre .0 .passed .houseWithin,
+      whole-part-is ok i,
+      sum-listOf-more (wholePart (start .args .populations .now) (start .args .house)) i,
+      whole-parts-within ok (i + 1),
+      ok .houseWithin,
     )
 
 lesser-requires : tie.Need-lesser-requires Inv-loop μ-loop
@@ -110,9 +108,9 @@ loop-again c =
     let i = at-loop .loop .i in
     let p = getD ps i 0 in
     let so-far = at-loop .loop .inv in
-    let same = start .pre .0 .totalIs in
-    let whole = whole-part-is ps (start .args .total) H i same in
-    let own = stood .standing .ensures ∙ ap (λ (P : ℕ). standingOf p P H) same in
+    let ok = start .pre .0 .problem in
+    let whole = whole-part-is ok i in
+    let own = stood .standing .ensures ∙ ap (λ (P : ℕ). standingOf p P H) (ok .states .sums) in
     let least = c .before .lesser .ensures in
     let greatest = c .greater .ensures in (
       fill-goes-on _ _ _ _ _ (tested .loop-test .taken) own (so-far .0),

@@ -10,12 +10,12 @@ array-borrow-prefix-standings : tie.Need-array-borrow-prefix-standings
 array-borrow-prefix-standings c = search needs
 
 slice-aggregate-fill-with-room : tie.Need-slice-aggregate-fill-with-room
-slice-aggregate-fill-with-room c = simp length-take (omega (arith, c .before .before .before .pre .passed .statesWithin))
+slice-aggregate-fill-with-room c = simp length-take (omega (arith, c .before .before .before .pre .problem .states .statesWithin))
 
 fill-with-room-requires : tie.Need-fill-with-room-requires
 fill-with-room-requires c κs =
     let start = c .before .before .before .before in
-    (start .pre, simp length-take (omega (arith, start .pre .passed .statesWithin)))
+    (start .pre, simp length-take (omega (arith, start .pre .problem .states .statesWithin)))
 
 same-length : tie.Need-same-length
 same-length c = search needs

@@ -13,7 +13,7 @@ use Rattle.apportionment.specs.Lists.{sum, listOf}
 use Rattle.apportionment.specs.Remainders.{wholePart, seatsLeft, remainderSeatsAt, remainderSeats}
 use Rattle.apportionment.specs.inner.Lists.{length-listOf, getD-listOf, is-listOf, listOf-agrees, sum-listOf-more}
 use Rattle.apportionment.specs.inner.Filling.{FilledTo}
-use Rattle.problem.specs.inner.Passed.{Passed}
+use Rattle.apportionment.specs.inner.Problem.{Problem}
 use Rattle.remainders.specs.inner.WholeParts.{wholeParts, whole-parts-within, left-within-states}
 use Rattle.remainders.specs.inner.Standing.{standingAt, standingsOf, extraIn, rank-is, withExtraAt, withExtra}
 use Rattle.remainders.specs.inner.Bar.{all-reach, none-above, Bar, extraBy, spareAt, no-more-to-spare, spareFor, served-by-rank}
@@ -61,28 +61,27 @@ pub record HasRoom (xs seats : List ℕ) : Type 0 where
   pub sameLength : length seats ≡ length xs
   pub seatsFit : (i : ℕ) → i < length xs → getD seats i 0 + 1 < 2 ^ 64
 
-parts-have-room : (ps : List ℕ) (H : ℕ) → Passed ps H → HasRoom (standingsOf ps H) (wholeParts ps H)
-parts-have-room ps H ok = record {
+parts-have-room : {ps : List ℕ} {P H : ℕ} → Problem ps P H → HasRoom (standingsOf ps H) (wholeParts ps H)
+parts-have-room {ps} {P} {H} ok = record {
   sameLength = length-listOf (wholePart ps H) (length ps) ∙ sym long;
   seatsFit = λ (i : ℕ) (h : i < length (standingsOf ps H)).
       rw (getD-listOf (wholePart ps H) (length ps) i (omega (arith, long)))
-      (omega (arith, sum-listOf-more (wholePart ps H) i, whole-parts-within ps H (i + 1) ok, ok .houseWithin));
+      (omega (arith, sum-listOf-more (wholePart ps H) i, whole-parts-within ok (i + 1), ok .houseWithin));
 }
   where
     long : length (standingsOf ps H) ≡ length ps
     long = length-listOf (standingAt ps H) (length ps)
 
-pub has-room : (ps : List ℕ) (H : ℕ) (xs seats : List ℕ) → Passed ps H
-    → xs ≡ standingsOf ps H → seats ≡ wholeParts ps H → HasRoom xs seats
-has-room ps H xs seats ok e d = rw (e, d) (parts-have-room ps H ok)
+pub has-room : {ps : List ℕ} {P H : ℕ} {xs seats : List ℕ} {r : Parts} → Problem ps P H → Filled ps H xs seats r → HasRoom xs seats
+has-room ok filled = rw (filled .standingsAre, filled .seatsAre) (parts-have-room ok)
 
-pub is-searchable : (ps : List ℕ) (H : ℕ) (xs seats : List ℕ) (r : Parts) → Passed ps H → Filled ps H xs seats r
+pub is-searchable : {ps : List ℕ} {P H : ℕ} {xs seats : List ℕ} {r : Parts} → Problem ps P H → Filled ps H xs seats r
     → Searchable xs (H - r .given) (r .least) (r .greatest)
 unfolding seatsLeft
-is-searchable ps H xs seats r ok filled = record {
-  some = omega (arith, long, ok .someState);
-  few = omega (arith, long, filled .givenIs, left-within-states ps H ok);
-  ordered = omega (arith, filled .spans .low 0 (ok .someState), filled .spans .high 0 (ok .someState));
+is-searchable {ps} {P} {H} {xs} {seats} {r} ok filled = record {
+  some = omega (arith, long, ok .states .someState);
+  few = omega (arith, long, filled .givenIs, left-within-states ok);
+  ordered = omega (arith, filled .spans .low 0 (ok .states .someState), filled .spans .high 0 (ok .states .someState));
   noneAbove = none-above xs (r .greatest) above (length xs) (omega arith);
   allReach = all-reach xs (r .least) below (length xs) (omega arith);
 }
@@ -199,8 +198,7 @@ parts-are-allotted ps H =
     long : length (wholeParts ps H) ≡ length ps
     long = length-listOf (wholePart ps H) (length ps)
 
-pub seats-are-allotted : (ps : List ℕ) (H : ℕ) (xs seats : List ℕ) (given : ℕ)
-    → xs ≡ standingsOf ps H → seats ≡ wholeParts ps H → given ≡ sum (wholeParts ps H)
-    → withExtra xs (H - given) seats ≡ remainderSeats ps H
+pub seats-are-allotted : {ps : List ℕ} {H : ℕ} {xs seats : List ℕ} {r : Parts} → Filled ps H xs seats r
+    → withExtra xs (H - r .given) seats ≡ remainderSeats ps H
 unfolding seatsLeft
-seats-are-allotted ps H xs seats given e d g = rw (e, d, g) (parts-are-allotted ps H)
+seats-are-allotted {ps} {H} filled = rw (filled .standingsAre, filled .seatsAre, filled .givenIs) (parts-are-allotted ps H)

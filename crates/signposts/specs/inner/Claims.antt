@@ -12,7 +12,7 @@ use Rattle.apportionment.specs.Quantities.{Fraction}
 use Rattle.apportionment.specs.Divisor.{signpost, weightOf, claimOf}
 use Rattle.apportionment.specs.declared.Method.{Method}
 use Rattle.apportionment.specs.declared.Method.the-variants.{Leximin, Adams, Dean, Hill, Webster, Jefferson, Remainders}
-use Rattle.claims.specs.inner.MachineWords.{product-fits}
+use Rattle.apportionment.specs.inner.MachineWords.{product-fits}
 use Rattle.signposts.specs.declared.Claim.{Claim}
 
 -- ---- claims

@@ -6,7 +6,7 @@ use native.Mathlib.Nat.{le-trans}
 use borrow.Author.Needs.{needs}
 use Rattle.apportionment.specs.Limits.{sumLimit}
 use Rattle.claims.specs.inner.DivisorClaims.{rounded}
-use Rattle.claims.specs.inner.MachineWords.{product-fits}
+use Rattle.apportionment.specs.inner.MachineWords.{product-fits}
 use Rattle.signposts.specs.inner.Claims.{aimLimit}
 use Rattle.divisor.specs.inner.Rounding.{whole-at-most, whole-counted, average-test}
 use Rattle.divisor.proofs.rounding.rounded_of.Statement.{statement}
