@@ -9,7 +9,7 @@ use signposts::order::first_to_move;
 ghost use mathlib.Core.Path.{_≡_};
 ghost use Prim.Native.Nat.{_*_, _<_};
 ghost use lib.ListN.{length};
-ghost use Rattle.signposts.specs.inner.Order.{AllCounted};
+ghost use Rattle.signposts.specs.inner.Order.{ClaimsFit};
 ghost use Rattle.divisor.specs.inner.Moves.{Moves, Played, Turn, Turned, movedBy, movedOnce, movedSeats};
 
 // Scans that look at so few states in all are faster than making a tournament, and so is a single scan.
@@ -74,7 +74,7 @@ fn play(
 
 // The state that moves first, found by going through all, moves.
 fn scan_one(method: Method, up: bool, populations: &[u64], seats: &mut [u64])
-    requires { ⌜ AllCounted (now populations) (now seats) ⌝ }
+    requires { ⌜ ClaimsFit (now populations) (now seats) ⌝ }
     ensures { λ _. ⌜ now (seats .exit) ≡ movedOnce method up (now (populations .entry)) (now (seats .entry)) ⌝ }
 {
     let place = first_to_move(method, up, populations, seats);

@@ -22,7 +22,8 @@ wholeParts ps H = listOf (wholePart ps H) (length ps)
 
 -- p H is far within 64 bits.
 pub share-fits : {ps : List ℕ} {P H : ℕ} → Problem ps P H → (i : ℕ) → Fits w64 (getD ps i 0 * H)
-share-fits ok i = product-fits sumLimit houseLimit (le-trans (entry-at-most-total (ok .states) i) (ok .states .sumWithin)) (ok .houseWithin) tt
+share-fits ok i =
+    product-fits sumLimit houseLimit (le-trans (entry-at-most-total (ok .states) i) (ok .states .sumWithin)) (ok .houseWithin) tt
 
 -- A whole part by the total that was handed over.
 pub whole-part-is : {ps : List ℕ} {P H : ℕ} → Problem ps P H → (i : ℕ) → getD ps i 0 * H / P ≡ wholePart ps H i

@@ -20,7 +20,7 @@ abbrev μ-loop : tie.MeasureT-loop
 
 loop-holds : tie.Need-loop-holds Inv-loop μ-loop
 unfolding firstPlace
-loop-holds c = (omega arith, omega (arith, c .before .before .pre .some), refl)
+loop-holds c = (omega arith, omega (arith, c .before .before .pre .someState), refl)
 
 better-of-requires : tie.Need-better-of-requires Inv-loop μ-loop
 better-of-requires c κs =
