@@ -1,4 +1,4 @@
--- `remainders::fill_with_room` meets its contract: whole parts, their standings and the seats that are left make the definition's seats.
+-- `remainders::fill_with_room` meets its contract: whole parts, their precedences and the seats that are left make the definition's seats.
 -- Assumes nothing.
 use mathlib.Core.Path.{_∙_}
 use native.Mathlib.Omega.{arith}

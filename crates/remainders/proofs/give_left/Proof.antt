@@ -28,7 +28,7 @@ returns c =
     let bar = found .bar-of .ensures in
     let spare = ap (λ (k : ℕ). left - k) (bar .counted) in
     served .serve .ensures
-    ∙ served-is (start .args .standings .now) left _ _ (start .args .seats .now) (bar .bar) (start .pre .1 .sameLength) spare
+    ∙ served-is (start .args .precedences .now) left _ _ (start .args .seats .now) (bar .bar) (start .pre .1 .sameLength) spare
 
 pub give-left-spec : {M : Type 1} → statement M
 give-left-spec = tie.close (tie.spec bar-of-requires sub-serve serve-requires same-length returns)

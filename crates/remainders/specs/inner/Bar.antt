@@ -1,4 +1,4 @@
--- Who has a seat that is left, told by a bar instead of by ranks: all who stand above it, and of those who stand at it the first, as
+-- Who has a seat that is left, told by a bar instead of by ranks: all who are above it, and of those at it the first, as
 -- many as there are seats to spare. The code finds the bar by halving, with far fewer comparisons than ranks take.
 -- Assumes nothing.
 use mathlib.Core.Path.{_≡_, refl, sym, _∙_}
@@ -14,13 +14,13 @@ use lib.ListN.{length, getD}
 use borrow.Author.Tests.{ltb-true, ltb-false, leb-true, leb-false, lt-ltb, le-ltb, eq-eqb, ne-eqb}
 use Rattle.apportionment.specs.Lists.{sum, countBelow}
 use Rattle.apportionment.specs.inner.Lists.{entry-at-most-sum, count-none}
-use Rattle.remainders.specs.inner.Standing.{rankIn, extraIn, reaches, count-reached, count-passed-by, rank-in-parts}
+use Rattle.remainders.specs.inner.Precedence.{rankIn, extraIn, reaches, count-reached, count-passed-by, rank-in-parts}
 
--- How many of the first k states reach a standing.
+-- How many of the first k states reach a precedence.
 abbrev pub reaching : (xs : List ℕ) (least k : ℕ) → ℕ
 reaching xs least k = countBelow (reaches xs least) k
 
--- ---- counts of those who reach a standing
+-- ---- counts of those who reach a precedence
 
 -- One place more is counted, or not.
 abbrev pub Counted : (xs : List ℕ) (least k : ℕ) → Type 0
@@ -35,7 +35,7 @@ counted xs least k = by-test (leb least (getD xs k 0)) refl
     by-test true e = inl (leb-true least (getD xs k 0) e, count-reached xs least k (leb-true least (getD xs k 0) e))
     by-test false e = inr (leb-false least (getD xs k 0) e, count-passed-by xs least k (leb-false least (getD xs k 0) e))
 
--- From place i on, a lower standing is reached at least as often as a higher one.
+-- From place i on, a lower precedence is reached at least as often as a higher one.
 falls-from : (xs : List ℕ) (low high i : ℕ) → low ≤ high → (d : ℕ)
     → reaching xs high (d + i) + reaching xs low i ≤ reaching xs low (d + i) + reaching xs high i
 falls-from xs low high i h zero = rw zero-add (omega arith)
@@ -59,14 +59,14 @@ pub falls : (xs : List ℕ) (low high k : ℕ) → low ≤ high → reaching xs 
 falls xs low high k h =
     omega (arith, falls-between xs low high 0 k h (omega arith), count-none (reaches xs low), count-none (reaches xs high))
 
--- Where every state stands at `low` or above, all are counted.
+-- Where every state is at `low` or above, all are counted.
 pub all-reach : (xs : List ℕ) (low : ℕ) → ((i : ℕ) → i < length xs → low ≤ getD xs i 0)
     → (k : ℕ) → k ≤ length xs → reaching xs low k ≡ k
 all-reach xs low h zero l = count-none (reaches xs low)
 all-reach xs low h (suc k) l =
     rw (← (add-one k)) (omega (arith, count-reached xs low k (h k (omega arith)), all-reach xs low h k (omega arith)))
 
--- Where no state stands above `top`, none is counted above it.
+-- Where no state is above `top`, none is counted above it.
 pub none-above : (xs : List ℕ) (top : ℕ) → ((i : ℕ) → i < length xs → getD xs i 0 ≤ top)
     → (k : ℕ) → k ≤ length xs → reaching xs (top + 1) k ≡ 0
 none-above xs top h zero l = count-none (reaches xs (top + 1))
@@ -81,12 +81,12 @@ pub record Bar (xs : List ℕ) (left bar : ℕ) : Type 0 where
   pub above : reaching xs (bar + 1) (length xs) ≤ left
   pub enough : left ≤ reaching xs bar (length xs)
 
--- A standing with just as many states above it as seats are left is a bar.
+-- A precedence with just as many states above it as seats are left is a bar.
 pub just-as-many : (xs : List ℕ) (left bar : ℕ) → reaching xs (bar + 1) (length xs) ≡ left → Bar xs left bar
 just-as-many xs left bar just =
     record { above = omega arith; enough = omega (arith, falls xs bar (bar + 1) (length xs) (omega arith)) }
 
--- Going down from where nobody stands, there is a bar.
+-- Going down from where nobody is, there is a bar.
 bar-below : (xs : List ℕ) (left : ℕ) → left ≤ length xs
     → (top : ℕ) → reaching xs (top + 1) (length xs) ≤ left → (bar : ℕ) × Bar xs left bar
 bar-below xs left few zero h =
@@ -110,7 +110,7 @@ bar-exists xs left few =
 
 -- ---- serving by the bar
 
--- The seat beyond its whole part of a state that stands at `own`, with `spare` seats for those at the bar.
+-- The seat beyond its whole part of a state of precedence `own`, with `spare` seats for those at the bar.
 unfoldable pub extraBy : (own bar spare : ℕ) → ℕ
 extraBy own bar spare = cond (ltb bar own) 1 (cond (ltb own bar) 0 (cond (eqb spare 0) 0 1))
 

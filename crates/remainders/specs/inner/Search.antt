@@ -1,5 +1,5 @@
--- The search for the bar: a range of standings that holds it is parted until one number is left. An end of the range is drawn in where no
--- state stands between, which changes no count; so equal standings do not keep the ends apart. `parted` and `bar_of` cite it.
+-- The search for the bar: a range of precedences that holds it is parted until one number is left. An end of the range is drawn in where no
+-- state is between, which changes no count; so equal precedences do not keep the ends apart. `parted` and `bar_of` cite it.
 -- Assumes nothing.
 use mathlib.Core.Path.{_≡_, sym, _∙_}
 use mathlib.Core.Logic.{_⊎_, inl, inr}
@@ -13,26 +13,26 @@ use Rattle.remainders.specs.declared.Range.{Range}
 
 -- ---- an end drawn in
 
--- A standing that is not below `low`, or else another number; and one that is not above `high`.
+-- A precedence that is not below `low`, or else another number; and one that is not above `high`.
 abbrev pub NotBelow : (own low none r : ℕ) → Type 0
 NotBelow own low none r = ((low ≤ own) × (r ≡ own)) ⊎ ((own < low) × (r ≡ none))
 
 abbrev pub NotAbove : (own high none r : ℕ) → Type 0
 NotAbove own high none r = ((own ≤ high) × (r ≡ own)) ⊎ ((high < own) × (r ≡ none))
 
--- From `low` up to `end` none of the first k states stands.
+-- From `low` up to `end` there is none of the first k states.
 pub record DrawnUp (xs : List ℕ) (low high k end : ℕ) : Type 0 where
   pub notBelow : low ≤ end
   pub within : end ≤ high
   pub same : reaching xs end k ≡ reaching xs low k
 
--- Above `end` and up to `high` none of the first k states stands.
+-- Above `end` and up to `high` there is none of the first k states.
 pub record DrawnDown (xs : List ℕ) (low high k end : ℕ) : Type 0 where
   pub within : low ≤ end
   pub notAbove : end ≤ high
   pub same : reaching xs (end + 1) k ≡ reaching xs (high + 1) k
 
--- A state reaches two standings, or neither.
+-- A state reaches two precedences, or neither.
 abbrev Alike : (own a b : ℕ) → Type 0
 Alike own a b = ((own < a) × (own < b)) ⊎ ((a ≤ own) × (b ≤ own))
 
@@ -49,7 +49,7 @@ reached-alike xs a b k e place = by-place place (counted xs a k) (counted xs b k
     by-place (inr p) (inl l) (inr r) = absurd (omega arith)
     by-place (inr p) (inr l) r = absurd (omega arith)
 
--- One state more: the end is drawn in to it, if it stands between.
+-- One state more: the end is drawn in to it, if it is between.
 pub drawn-up-on : (xs : List ℕ) (low high k best own next : ℕ) → DrawnUp xs low high k best
     → NotBelow (getD xs k 0) low high own → next ≡ min best own → DrawnUp xs low high (k + 1) next
 drawn-up-on xs low high k best own next so-far place e = record {

@@ -15,12 +15,12 @@ use Rattle.apportionment.specs.inner.Lists.{length-listOf, getD-listOf, is-list
 use Rattle.apportionment.specs.inner.Filling.{FilledTo}
 use Rattle.apportionment.specs.inner.Problem.{Problem}
 use Rattle.remainders.specs.inner.WholeParts.{wholeParts, whole-parts-within, left-within-states}
-use Rattle.remainders.specs.inner.Standing.{standingAt, standingsOf, extraIn, rank-is, withExtraAt, withExtra}
+use Rattle.remainders.specs.inner.Precedence.{precedenceAt, precedencesOf, extraIn, rank-is, withExtraAt, withExtra}
 use Rattle.remainders.specs.inner.Bar.{all-reach, none-above, Bar, extraBy, spareAt, no-more-to-spare, spareFor, served-by-rank}
 use Rattle.remainders.specs.inner.Search.{Searchable}
 use Rattle.remainders.specs.declared.Parts.{Parts}
 
--- ---- the whole parts and the standings
+-- ---- the whole parts and the precedences
 
 -- No number of the first k is outside of `least` to `greatest`.
 pub record Spans (f : ℕ → ℕ) (k least greatest : ℕ) : Type 0 where
@@ -50,30 +50,30 @@ spans-on f k least greatest low high own so-far e l h = record {
     by-high i m false d = omega (arith, h, so-far .high i (omega (arith, eqb-false i k d)))
 
 -- The lists after filling, and what it hands back.
-pub record Filled (ps : List ℕ) (H : ℕ) (standings seats : List ℕ) (r : Parts) : Type 0 where
-  pub standingsAre : standings ≡ standingsOf ps H
+pub record Filled (ps : List ℕ) (H : ℕ) (precedences seats : List ℕ) (r : Parts) : Type 0 where
+  pub precedencesAre : precedences ≡ precedencesOf ps H
   pub seatsAre : seats ≡ wholeParts ps H
   pub givenIs : r .given ≡ sum (wholeParts ps H)
-  pub spans : Spans (standingAt ps H) (length ps) (r .least) (r .greatest)
+  pub spans : Spans (precedenceAt ps H) (length ps) (r .least) (r .greatest)
 
 -- Standings and seats of as many states, with room for one more seat each.
 pub record HasRoom (xs seats : List ℕ) : Type 0 where
   pub sameLength : length seats ≡ length xs
   pub seatsFit : (i : ℕ) → i < length xs → getD seats i 0 + 1 < 2 ^ 64
 
-parts-have-room : {ps : List ℕ} {P H : ℕ} → Problem ps P H → HasRoom (standingsOf ps H) (wholeParts ps H)
+parts-have-room : {ps : List ℕ} {P H : ℕ} → Problem ps P H → HasRoom (precedencesOf ps H) (wholeParts ps H)
 parts-have-room {ps} {P} {H} ok = record {
   sameLength = length-listOf (wholePart ps H) (length ps) ∙ sym long;
-  seatsFit = λ (i : ℕ) (h : i < length (standingsOf ps H)).
+  seatsFit = λ (i : ℕ) (h : i < length (precedencesOf ps H)).
       rw (getD-listOf (wholePart ps H) (length ps) i (omega (arith, long)))
       (omega (arith, sum-listOf-more (wholePart ps H) i, whole-parts-within ok (i + 1), ok .houseWithin));
 }
   where
-    long : length (standingsOf ps H) ≡ length ps
-    long = length-listOf (standingAt ps H) (length ps)
+    long : length (precedencesOf ps H) ≡ length ps
+    long = length-listOf (precedenceAt ps H) (length ps)
 
 pub has-room : {ps : List ℕ} {P H : ℕ} {xs seats : List ℕ} {r : Parts} → Problem ps P H → Filled ps H xs seats r → HasRoom xs seats
-has-room ok filled = rw (filled .standingsAre, filled .seatsAre) (parts-have-room ok)
+has-room ok filled = rw (filled .precedencesAre, filled .seatsAre) (parts-have-room ok)
 
 pub is-searchable : {ps : List ℕ} {P H : ℕ} {xs seats : List ℕ} {r : Parts} → Problem ps P H → Filled ps H xs seats r
     → Searchable xs (H - r .given) (r .least) (r .greatest)
@@ -87,16 +87,16 @@ is-searchable {ps} {P} {H} {xs} {seats} {r} ok filled = record {
 }
   where
     long : length xs ≡ length ps
-    long = ap length (filled .standingsAre) ∙ length-listOf (standingAt ps H) (length ps)
+    long = ap length (filled .precedencesAre) ∙ length-listOf (precedenceAt ps H) (length ps)
 
-    stands : (i : ℕ) → i < length xs → getD xs i 0 ≡ standingAt ps H i
-    stands i h = ap (λ (l : List ℕ). getD l i 0) (filled .standingsAre) ∙ getD-listOf (standingAt ps H) (length ps) i (omega (arith, long))
+    own : (i : ℕ) → i < length xs → getD xs i 0 ≡ precedenceAt ps H i
+    own i h = ap (λ (l : List ℕ). getD l i 0) (filled .precedencesAre) ∙ getD-listOf (precedenceAt ps H) (length ps) i (omega (arith, long))
 
     below : (i : ℕ) → i < length xs → r .least ≤ getD xs i 0
-    below i h = rw (stands i h) (filled .spans .low i (omega (arith, long)))
+    below i h = rw (own i h) (filled .spans .low i (omega (arith, long)))
 
     above : (i : ℕ) → i < length xs → getD xs i 0 ≤ r .greatest
-    above i h = rw (stands i h) (filled .spans .high i (omega (arith, long)))
+    above i h = rw (own i h) (filled .spans .high i (omega (arith, long)))
 
 -- ---- serving, and the definition
 
@@ -178,22 +178,22 @@ served-is xs left bar spare seats b same e =
 
 -- At each place, a whole part with the seat beyond it is the definition's number.
 seat-is-allotted : (ps : List ℕ) (H i : ℕ) → i < length ps
-    → withExtraAt (standingsOf ps H) (seatsLeft ps H) (wholeParts ps H) i ≡ remainderSeatsAt ps H i
+    → withExtraAt (precedencesOf ps H) (seatsLeft ps H) (wholeParts ps H) i ≡ remainderSeatsAt ps H i
 unfolding remainderSeatsAt extraIn
 seat-is-allotted ps H i h = rw (getD-listOf (wholePart ps H) (length ps) i h, rank-is ps H i h)
 
-pub parts-are-allotted : (ps : List ℕ) (H : ℕ) → withExtra (standingsOf ps H) (seatsLeft ps H) (wholeParts ps H) ≡ remainderSeats ps H
+pub parts-are-allotted : (ps : List ℕ) (H : ℕ) → withExtra (precedencesOf ps H) (seatsLeft ps H) (wholeParts ps H) ≡ remainderSeats ps H
 unfolding remainderSeats
 parts-are-allotted ps H =
     is-listOf
-    (withExtra (standingsOf ps H) (seatsLeft ps H) (wholeParts ps H))
+    (withExtra (precedencesOf ps H) (seatsLeft ps H) (wholeParts ps H))
     (remainderSeatsAt ps H)
     (length ps)
     (length-listOf each (length (wholeParts ps H)) ∙ long)
     (λ (i : ℕ) (h : i < length ps). getD-listOf each (length (wholeParts ps H)) i (omega (arith, long)) ∙ seat-is-allotted ps H i h)
   where
     each : ℕ → ℕ
-    each = withExtraAt (standingsOf ps H) (seatsLeft ps H) (wholeParts ps H)
+    each = withExtraAt (precedencesOf ps H) (seatsLeft ps H) (wholeParts ps H)
 
     long : length (wholeParts ps H) ≡ length ps
     long = length-listOf (wholePart ps H) (length ps)
@@ -201,4 +201,4 @@ parts-are-allotted ps H =
 pub seats-are-allotted : {ps : List ℕ} {H : ℕ} {xs seats : List ℕ} {r : Parts} → Filled ps H xs seats r
     → withExtra xs (H - r .given) seats ≡ remainderSeats ps H
 unfolding seatsLeft
-seats-are-allotted {ps} {H} filled = rw (filled .standingsAre, filled .seatsAre, filled .givenIs) (parts-are-allotted ps H)
+seats-are-allotted {ps} {H} filled = rw (filled .precedencesAre, filled .seatsAre, filled .givenIs) (parts-are-allotted ps H)
