@@ -10,6 +10,12 @@ ghost use Rattle.apportionment.specs.inner.Problem.{Fillable};
 ghost use Rattle.signposts.specs.inner.Claims.{aimLimit};
 ghost use Rattle.divisor.specs.inner.Steps.{Started};
 
+// Rounding again costs about as much as so many moves, and as one more for every so many states: it goes through all of them, and a move
+// of a tournament through a few.
+const MOVES_AT_LEAST: u64 = 4;
+
+const STATES_A_MOVE: u64 = 16;
+
 // The house to aim at once rounding for `house` has given so many seats: moved by what was lacking or too much.
 fn aim_of(house: u64, given: u64) -> u64
     requires { ⌜ house ≤ houseLimit ⌝ }
@@ -30,7 +36,7 @@ fn near(states: usize, given: u64, house: u64, aim: u64) -> bool
     if given == 0 {
         return true;
     }
-    let way = 4 + states as u64 / 16;
+    let way = MOVES_AT_LEAST + states as u64 / STATES_A_MOVE;
     if house + way < aim {
         return false;
     }

@@ -7,7 +7,7 @@ use apportionment::Method;
 use apportionment::STATE_LIMIT;
 use signposts::order::first_to_move;
 ghost use mathlib.Core.Path.{_≡_};
-ghost use Prim.Native.Nat.{_*_, _<_};
+ghost use Prim.Native.Nat.{_+_, _*_, _^_, _<_};
 ghost use lib.ListN.{length};
 ghost use Rattle.signposts.specs.inner.Order.{ClaimsFit};
 ghost use Rattle.divisor.specs.inner.Moves.{Moves, Played, Turn, Turned, movedBy, movedOnce, movedSeats};
@@ -17,7 +17,7 @@ const FEW: u64 = 96;
 
 // A state's seats after a move: one more, or one less and none of none.
 fn moved(up: bool, x: u64) -> u64
-    requires { ⌜ x < 18446744073709551615 ⌝ }
+    requires { ⌜ x + 1 < 2 ^ 64 ⌝ }
     ensures { λ r. ⌜ r ≡ movedBy up x ⌝ }
 {
     if up {

@@ -2,7 +2,7 @@
 use apportionment::Method;
 use signposts::order::better_of;
 ghost use mathlib.Core.Path.{_≡_};
-ghost use Prim.Native.Nat.{_*_, _<_};
+ghost use Prim.Native.Nat.{_+_, _*_, _^_, _<_};
 ghost use lib.ListN.{length};
 ghost use Rattle.claims.specs.inner.TournamentReplay.{Planted, Decidable, beside};
 ghost use Rattle.signposts.specs.inner.Order.{ClaimsFit};
@@ -50,7 +50,7 @@ pub fn build(method: Method, up: bool, populations: &[u64], seats: &[u64], tree:
 
 // The place beside k: the two meet at the place half as far.
 fn beside_of(k: usize) -> usize
-    requires { ⌜ k < 18446744073709551615 ⌝ }
+    requires { ⌜ k + 1 < 2 ^ 64 ⌝ }
     ensures { λ r. ⌜ r ≡ beside k ⌝ }
 {
     if k % 2 == 0 {

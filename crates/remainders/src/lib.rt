@@ -224,6 +224,9 @@ fn first_guess(low: u64, high: u64, left: u64, states: u64) -> u64
     last - (last - low) / states * left
 }
 
+// One state in so many is few: where the first guess cuts off no more than that, drawing the end in at once saves more than it costs.
+const FEW_IN: u64 = 32;
+
 // The bar: a precedence with at most `left` states above it, and at least as many at it or above. What lies between the least and the
 // greatest precedence is parted at a first guess, and then halved, until one number is left.
 fn bar_of(precedences: &[u64], left: u64, least: u64, greatest: u64) -> Range
@@ -231,7 +234,7 @@ fn bar_of(precedences: &[u64], left: u64, least: u64, greatest: u64) -> Range
     ensures { λ r. ⌜ BarFound (now (precedences .entry)) left r ⌝ }
 {
     let states = precedences.len() as u64;
-    let few = states / 32;
+    let few = states / FEW_IN;
     let most = states - few;
     let all = Range {
         low: least,

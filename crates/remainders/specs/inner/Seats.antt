@@ -2,7 +2,7 @@
 -- room. The functions that fill and serve cite it.
 -- Assumes nothing.
 use mathlib.Core.Path.{_≡_, refl, sym, ap, _∙_}
-use mathlib.Core.Bool.{Bool, true, false, cond}
+use mathlib.Core.Bool.{true, false, cond}
 use mathlib.Core.List.{List}
 use Prim.Native.Nat.{ℕ, _+_, _-_, _^_, _≤_, _<_, min, max}
 use native.Mathlib.Omega.{arith}
@@ -13,6 +13,7 @@ use Rattle.apportionment.specs.Lists.{sum, listOf}
 use Rattle.apportionment.specs.Remainders.{wholePart, seatsLeft, remainderSeatsAt, remainderSeats}
 use Rattle.apportionment.specs.inner.Lists.{length-listOf, getD-listOf, is-listOf, listOf-agrees, sum-listOf-more}
 use Rattle.apportionment.specs.inner.Filling.{FilledTo}
+use Rattle.apportionment.specs.inner.Tests.{either-way}
 use Rattle.apportionment.specs.inner.Problem.{Problem}
 use Rattle.remainders.specs.inner.WholeParts.{wholeParts, whole-parts-within, left-within-states}
 use Rattle.remainders.specs.inner.Precedence.{precedenceAt, precedencesOf, extraIn, rank-is, withExtraAt, withExtra}
@@ -37,17 +38,15 @@ spans-none f least greatest = record {
 pub spans-on : (f : ℕ → ℕ) (k least greatest low high own : ℕ) → Spans f k least greatest → own ≡ f k
     → low ≡ min least own → high ≡ max greatest own → Spans f (k + 1) low high
 spans-on f k least greatest low high own so-far e l h = record {
-  low = λ (i : ℕ) (m : i < k + 1). by-low i m (eqb i k) refl;
-  high = λ (i : ℕ) (m : i < k + 1). by-high i m (eqb i k) refl;
+  low = λ (i : ℕ) (m : i < k + 1).
+      either-way (eqb i k)
+      (λ d. rw (eqb-true i k d) (omega arith))
+      (λ d. omega (arith, so-far .low i (omega (arith, eqb-false i k d))));
+  high = λ (i : ℕ) (m : i < k + 1).
+      either-way (eqb i k)
+      (λ d. rw (eqb-true i k d) (omega arith))
+      (λ d. omega (arith, so-far .high i (omega (arith, eqb-false i k d))));
 }
-  where
-    by-low : (i : ℕ) → i < k + 1 → (t : Bool) → eqb i k ≡ t → low ≤ f i
-    by-low i m true d = rw (eqb-true i k d) (omega (arith, e, l))
-    by-low i m false d = omega (arith, l, so-far .low i (omega (arith, eqb-false i k d)))
-
-    by-high : (i : ℕ) → i < k + 1 → (t : Bool) → eqb i k ≡ t → f i ≤ high
-    by-high i m true d = rw (eqb-true i k d) (omega (arith, e, h))
-    by-high i m false d = omega (arith, h, so-far .high i (omega (arith, eqb-false i k d)))
 
 -- The lists after filling, and what it hands back.
 pub record Filled (ps : List ℕ) (H : ℕ) (precedences seats : List ℕ) (r : Parts) : Type 0 where
@@ -156,12 +155,14 @@ served-in-parts xs bar spare before place after room s =
     (length before)
     (length-listOf (servedFromAt xs bar place after) (length after) ∙ s .done .long)
     (λ (i : ℕ) (h : i < length before).
-    getD-listOf (servedFromAt xs bar place after) (length after) i (omega (arith, s .done .long)) ∙ by-place i h (ltb i place) refl)
+    getD-listOf (servedFromAt xs bar place after) (length after) i (omega (arith, s .done .long))
+    ∙ either-way (ltb i place) (early i) (late i h))
   where
-    by-place : (i : ℕ) → i < length before → (t : Bool) → ltb i place ≡ t
-        → servedFromAt xs bar place after i ≡ servedAt xs bar spare before i
-    by-place i h true e = rw e (omega (arith, s .done .right i (ltb-true i place e)))
-    by-place i h false e =
+    early : (i : ℕ) → ltb i place ≡ true → servedFromAt xs bar place after i ≡ servedAt xs bar spare before i
+    early i e = rw e (omega (arith, s .done .right i (ltb-true i place e)))
+
+    late : (i : ℕ) → i < length before → ltb i place ≡ false → servedFromAt xs bar place after i ≡ servedAt xs bar spare before i
+    late i h e =
         let later : place ≤ i = ltb-false i place e in
         let none : spareAt xs bar spare i ≡ 0
         = no-more-to-spare xs bar spare place i later (s .none (omega (arith, room .sameLength))) in
