@@ -22,7 +22,7 @@ loop-holds : tie.Need-loop-holds Inv-loop μ-loop
 loop-holds c =
     let start = c .before in
     let xs = start .args .precedences .now in
-    let none = count-none (reaches xs (start .args .high)) ∙ sym (count-none (reaches xs (start .args .low))) in
+    let none = count-none (reaches xs (start .args .low)) ∙ sym (count-none (reaches xs (start .args .high))) in
     (omega arith, record { notBelow = start .pre; within = omega arith; same = none })
 
 mul-not-below : tie.Need-mul-not-below Inv-loop μ-loop
