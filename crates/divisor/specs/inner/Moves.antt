@@ -110,11 +110,11 @@ unfolding movedSeats placedTimes withdrawnTimes
 moved-none m true ps ss = refl
 moved-none m false ps ss = refl
 
-pub moved-more : (m : Method) (up : Bool) (ps before : List ℕ) (done : ℕ) {ss : List ℕ} → ss ≡ movedSeats m up ps before done
-    → movedOnce m up ps ss ≡ movedSeats m up ps before (done + 1)
+pub moved-more : (m : Method) (up : Bool) (ps before : List ℕ) (done : ℕ) {ss after : List ℕ} → ss ≡ movedSeats m up ps before done
+    → after ≡ movedOnce m up ps ss → after ≡ movedSeats m up ps before (done + 1)
 unfolding movedOnce movedSeats placedTimes withdrawnTimes
-moved-more m true ps before done so-far = rw (so-far, add-one done)
-moved-more m false ps before done so-far = rw (so-far, add-one done)
+moved-more m true ps before done so-far once = once ∙ rw (so-far, add-one done)
+moved-more m false ps before done so-far once = once ∙ rw (so-far, add-one done)
 
 moved-length : (m : Method) (up : Bool) (ps before : List ℕ) (done : ℕ) → length (movedSeats m up ps before done) ≡ length before
 unfolding movedSeats
@@ -161,10 +161,10 @@ module _ {m : Method} {up : Bool} {ps before : List ℕ} where
         record {
           states = k .states;
           all = moved-fits m k done (omega arith) (so-far .seats);
-          after = moved-fits m k (done + 1) (omega arith) (moved-more m up ps before done (so-far .seats));
+          after = moved-fits m k (done + 1) (omega arith) (moved-more m up ps before done (so-far .seats) refl);
           played = so-far .played;
         }
 
     pub moving-more : {after tree′ : List ℕ} → Turned m up ps ss after tree′ → Moving m up ps before (done + 1) after tree′
     moving-more turned =
-        record { seats = turned .seats ∙ moved-more m up ps before done (so-far .seats); played = turned .played }
+        record { seats = moved-more m up ps before done (so-far .seats) (turned .seats); played = turned .played }

@@ -67,12 +67,12 @@ module _ {m : Method} {ps before ss : List ℕ} {P H given : ℕ} (k : Fillable 
   order : ClaimOrder (length ps) (λ _. 0) (methodTest m ps)
   order = method-order ps (states .someState) (states .peopled) m
 
-  pub withdrawn-is-divisor : H < given → movedSeats m false ps ss (given - H) ≡ divisorSeats m ps H
+  pub withdrawn-is-divisor : H < given → {after : List ℕ} → after ≡ movedSeats m false ps ss (given - H) → after ≡ divisorSeats m ps H
   unfolding movedSeats
-  withdrawn-is-divisor h =
+  withdrawn-is-divisor h e =
       let some = states .someState in
       let enough : sum (listOf (λ _. 0) (length ps)) + (given - H) ≤ sum ss = omega (arith, start-sum, sum-listOf-zero (length ps)) in
-      standing-is-divisor ps some (states .peopled) m _ H
+      e ∙ standing-is-divisor ps some (states .peopled) m _ H
       (withdrawnTimes-standing (length ps) (λ _. 0) (methodTest m ps) order ss (given - H) some start-stands enough)
       (omega (
         arith,
@@ -80,10 +80,10 @@ module _ {m : Method} {ps before ss : List ℕ} {P H given : ℕ} (k : Fillable 
         sum-withdrawnTimes (length ps) (λ _. 0) (methodTest m ps) order ss (given - H) some (filled-length (start .filled)) enough,
       ))
 
-  pub placed-is-divisor : given ≤ H → movedSeats m true ps ss (H - given) ≡ divisorSeats m ps H
+  pub placed-is-divisor : given ≤ H → {after : List ℕ} → after ≡ movedSeats m true ps ss (H - given) → after ≡ divisorSeats m ps H
   unfolding movedSeats
-  placed-is-divisor h =
+  placed-is-divisor h e =
       let some = states .someState in
-      standing-is-divisor ps some (states .peopled) m _ H
+      e ∙ standing-is-divisor ps some (states .peopled) m _ H
       (placedTimes-standing (length ps) (λ _. 0) (methodTest m ps) order ss (H - given) some start-stands)
       (omega (arith, start-sum, sum-placedTimes (length ps) (methodTest m ps) ss (H - given) some (filled-length (start .filled))))

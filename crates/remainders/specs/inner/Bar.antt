@@ -24,12 +24,12 @@ reaching xs least k = countBelow (reaches xs least) k
 -- ---- counts of those who reach a precedence
 
 -- One place more is counted, or not.
-abbrev pub Counted : (xs : List ℕ) (least k : ℕ) → Type 0
+abbrev Counted : (xs : List ℕ) (least k : ℕ) → Type 0
 Counted xs least k =
     ((least ≤ getD xs k 0) × (reaching xs least (k + 1) ≡ 1 + reaching xs least k))
     ⊎ ((getD xs k 0 < least) × (reaching xs least (k + 1) ≡ reaching xs least k))
 
-pub counted : (xs : List ℕ) (least k : ℕ) → Counted xs least k
+counted : (xs : List ℕ) (least k : ℕ) → Counted xs least k
 counted xs least k =
     either-way (leb least (getD xs k 0))
     (λ e. inl (leb-true least (getD xs k 0) e, count-reached xs least k (leb-true least (getD xs k 0) e)))

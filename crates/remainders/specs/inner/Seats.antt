@@ -17,9 +17,10 @@ use Rattle.apportionment.specs.inner.Tests.{either-way}
 use Rattle.apportionment.specs.inner.Problem.{Problem}
 use Rattle.remainders.specs.inner.WholeParts.{wholeParts, whole-parts-within, left-within-states}
 use Rattle.remainders.specs.inner.Precedence.{precedenceAt, precedencesOf, extraIn, rank-is, withExtraAt, withExtra}
-use Rattle.remainders.specs.inner.Bar.{all-reach, none-above, Bar, extraBy, spareAt, no-more-to-spare, spareFor, served-by-rank}
-use Rattle.remainders.specs.inner.Search.{Searchable}
+use Rattle.remainders.specs.inner.Bar.{all-reach, none-above, extraBy, spareAt, no-more-to-spare, served-by-rank}
+use Rattle.remainders.specs.inner.Search.{Searchable, BarFound}
 use Rattle.remainders.specs.declared.Parts.{Parts}
+use Rattle.remainders.specs.declared.Range.{Range}
 
 -- ---- the whole parts and the precedences
 
@@ -168,14 +169,16 @@ served-in-parts xs bar spare before place after room s =
         = no-more-to-spare xs bar spare place i later (s .none (omega (arith, room .sameLength))) in
         rw (e, none) (omega (arith, s .kept i later))
 
-pub served-is : (xs : List ℕ) (left bar spare : ℕ) (seats : List ℕ) → Bar xs left bar → length seats ≡ length xs
-    → spare ≡ spareFor xs left bar → served xs bar spare seats ≡ withExtra xs left seats
-served-is xs left bar spare seats b same e =
-    listOf-agrees
-    (servedAt xs bar spare seats)
+-- Served by the bar that was found, all have what their rank gives them.
+pub served-by-found-bar : (seats : List ℕ) {xs after : List ℕ} {left : ℕ} {r : Range} → BarFound xs left r → length seats ≡ length xs
+    → after ≡ served xs (r .low) (left - r .above) seats → after ≡ withExtra xs left seats
+served-by-found-bar seats {xs} {after} {left} {r} found same e =
+    e ∙ listOf-agrees
+    (servedAt xs (r .low) (left - r .above) seats)
     (withExtraAt xs left seats)
     (length seats)
-    (λ (i : ℕ) (h : i < length seats). ap (λ (x : ℕ). getD seats i 0 + x) (rw e (served-by-rank xs left bar b i (omega arith))))
+    (λ (i : ℕ) (h : i < length seats).
+    ap (λ (x : ℕ). getD seats i 0 + x) (rw (found .counted) (served-by-rank xs left (r .low) (found .bar) i (omega arith))))
 
 -- At each place, a whole part with the seat beyond it is the definition's number.
 seat-is-allotted : (ps : List ℕ) (H i : ℕ) → i < length ps

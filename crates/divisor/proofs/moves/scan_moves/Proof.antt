@@ -33,7 +33,7 @@ loop-again : tie.Need-loop-again Inv-loop μ-loop
 loop-again c =
     let made = c .before .before in
     let turn = made .before .before .before .loop in
-    (omega arith, made .scan-one .ensures ∙ moved-more _ _ _ _ (turn .done) (turn .inv .1))
+    (omega arith, moved-more _ _ _ _ (turn .done) (turn .inv .1) (made .scan-one .ensures))
 
 same-length : tie.Need-same-length Inv-loop μ-loop
 same-length c =
