@@ -11,7 +11,7 @@ use Rattle.apportionment.specs.Quantities.{hundredthsText, shownText, ma
 use Rattle.apportionment.specs.Leximin.{sizesOf, insert, largestFirst, listLess, moreAtFirst, sizeList, chosenBefore, withFirst}
 use Rattle.apportionment.specs.Leximin.{allotments, firstOf, firstOfAll, leximinFor}
 use Rattle.apportionment.specs.Divisor.{signpost, weightOf, claimOf, claimBefore, firstClaim, oneMore, claimsMet, divisorSeats}
-use Rattle.apportionment.specs.Remainders.{wholePart, remainder, standsBefore, seatsLeft, rank, remainderSeatsAt, remainderSeats}
+use Rattle.apportionment.specs.Remainders.{wholePart, remainder, servedBefore, seatsLeft, rank, remainderSeatsAt, remainderSeats}
 use Rattle.apportionment.specs.Allotment.{seatsOf}
 use Rattle.apportionment.specs.declared.Mark.{Mark}
 use Rattle.apportionment.specs.declared.Mark.the-variants.{In, Over}
@@ -56,6 +56,6 @@ pub starred-hold : allHold starred ≡ true
 unfolding starred allHold holds seatsOf sameList sum decimal decimalWith less atMost distance sizeOf isBelow nearestWhole
     hundredthsOf shownOf hundredthsText shownText markOf markText sizesOf insert largestFirst listLess moreAtFirst sizeList
     chosenBefore withFirst allotments firstOf firstOfAll leximinFor signpost weightOf claimOf claimBefore firstClaim firstPlace
-    oneMore claimsMet divisorSeats countBelow listOf wholePart remainder standsBefore seatsLeft rank remainderSeatsAt
+    oneMore claimsMet divisorSeats countBelow listOf wholePart remainder servedBefore seatsLeft rank remainderSeatsAt
     remainderSeats
 starred-hold = refl

@@ -14,9 +14,10 @@ wholePart ps H i = getD ps i 0 * H / sum ps
 unfoldable pub remainder : (ps : List ℕ) (H i : ℕ) → ℕ
 remainder ps H i = getD ps i 0 * H % sum ps
 
--- State j stands before state i for a seat that is left: its remainder is larger, or equal and j is earlier in register order.
-unfoldable pub standsBefore : (ps : List ℕ) (H i j : ℕ) → Bool
-standsBefore ps H i j =
+-- State j is served before state i where the seats that are left are given: its remainder is larger, or equal and j is earlier in
+-- register order.
+unfoldable pub servedBefore : (ps : List ℕ) (H i j : ℕ) → Bool
+servedBefore ps H i j =
     cond (ltb (remainder ps H i) (remainder ps H j)) true
     (cond (ltb (remainder ps H j) (remainder ps H i)) false (ltb j i))
 
@@ -24,9 +25,9 @@ standsBefore ps H i j =
 unfoldable pub seatsLeft : (ps : List ℕ) (H : ℕ) → ℕ
 seatsLeft ps H = H - sum (listOf (wholePart ps H) (length ps))
 
--- A state's rank among those that want a seat that is left: how many stand before it.
+-- A state's rank among those that want a seat that is left: how many are served before it.
 unfoldable pub rank : (ps : List ℕ) (H i : ℕ) → ℕ
-rank ps H i = countBelow (standsBefore ps H i) (length ps)
+rank ps H i = countBelow (servedBefore ps H i) (length ps)
 
 -- A state's seats: its whole part, and one more if its rank is below the seats left.
 unfoldable pub remainderSeatsAt : (ps : List ℕ) (H i : ℕ) → ℕ

@@ -1,6 +1,7 @@
--- Laws of the words about lists, filling and checks, and the checked problem that the layers above start from.
+-- Laws of the words about lists, filling and checks, the checked problem that the layers above start from, and the bound of its products.
 pub mod Tests
 pub mod Lists
 pub mod Filling
 pub mod Checks
 pub mod Problem
+pub mod MachineWords

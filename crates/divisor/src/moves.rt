@@ -7,9 +7,9 @@ use apportionment::Method;
 use apportionment::STATE_LIMIT;
 use signposts::order::first_to_move;
 ghost use mathlib.Core.Path.{_≡_};
-ghost use Prim.Native.Nat.{_*_, _<_};
+ghost use Prim.Native.Nat.{_+_, _*_, _^_, _<_};
 ghost use lib.ListN.{length};
-ghost use Rattle.signposts.specs.inner.Order.{AllCounted};
+ghost use Rattle.signposts.specs.inner.Order.{ClaimsFit};
 ghost use Rattle.divisor.specs.inner.Moves.{Moves, Played, Turn, Turned, movedBy, movedOnce, movedSeats};
 
 // Scans that look at so few states in all are faster than making a tournament, and so is a single scan.
@@ -17,7 +17,7 @@ const FEW: u64 = 96;
 
 // A state's seats after a move: one more, or one less and none of none.
 fn moved(up: bool, x: u64) -> u64
-    requires { ⌜ x < 18446744073709551615 ⌝ }
+    requires { ⌜ x + 1 < 2 ^ 64 ⌝ }
     ensures { λ r. ⌜ r ≡ movedBy up x ⌝ }
 {
     if up {
@@ -74,7 +74,7 @@ fn play(
 
 // The state that moves first, found by going through all, moves.
 fn scan_one(method: Method, up: bool, populations: &[u64], seats: &mut [u64])
-    requires { ⌜ AllCounted (now populations) (now seats) ⌝ }
+    requires { ⌜ ClaimsFit (now populations) (now seats) ⌝ }
     ensures { λ _. ⌜ now (seats .exit) ≡ movedOnce method up (now (populations .entry)) (now (seats .entry)) ⌝ }
 {
     let place = first_to_move(method, up, populations, seats);

@@ -6,13 +6,15 @@ use signposts::claim_of;
 use signposts::weight_of;
 ghost use mathlib.Core.Path.{_≡_};
 ghost use Prim.Native.Nat.{_≤_};
+ghost use lib.ListN.{length};
+ghost use Rattle.apportionment.specs.inner.Problem.{States};
 ghost use Rattle.claims.specs.inner.DivisorClaims.{rounded};
 ghost use Rattle.signposts.specs.inner.Claims.{aimLimit};
-ghost use Rattle.divisor.specs.inner.Rounding.{Rounds, States, Filled};
+ghost use Rattle.divisor.specs.inner.Rounding.{ShareFits, Filled};
 
 // The seats of one state: the whole part of p A / P, and one more unless the claim there passes the average.
 fn rounded_of(method: Method, population: u64, total: u64, aim: u64) -> u64
-    requires { ⌜ Rounds population total aim ⌝ }
+    requires { ⌜ ShareFits population total aim ⌝ }
     ensures { λ r. ⌜ r ≡ rounded method total aim population ⌝ }
 {
     let whole = population * aim / total;
@@ -35,7 +37,7 @@ pub fn fill_rounded(
     aim: u64,
     seats: &mut [u64],
 ) -> u64
-    requires { ⌜ States (now populations) (now seats) total × (aim ≤ aimLimit) ⌝ }
+    requires { ⌜ States (now populations) total × (length (now seats) ≡ length (now populations)) × (aim ≤ aimLimit) ⌝ }
     ensures { λ r. ⌜ Filled method (now (populations .entry)) aim (now (seats .exit)) r ⌝ }
 {
     let mut given = 0;

@@ -2,10 +2,10 @@
 use apportionment::Method;
 use signposts::order::better_of;
 ghost use mathlib.Core.Path.{_≡_};
-ghost use Prim.Native.Nat.{_*_, _<_};
+ghost use Prim.Native.Nat.{_+_, _*_, _^_, _<_};
 ghost use lib.ListN.{length};
 ghost use Rattle.claims.specs.inner.TournamentReplay.{Planted, Decidable, beside};
-ghost use Rattle.signposts.specs.inner.Order.{AllCounted};
+ghost use Rattle.signposts.specs.inner.Order.{ClaimsFit};
 ghost use Rattle.divisor.specs.inner.Moves.{Decided, Replays, Played};
 
 // Puts each state at its leaf.
@@ -29,7 +29,7 @@ fn decide(
     k: usize,
     tree: &mut [usize],
 )
-    requires { ⌜ AllCounted (now populations) (now seats) × Decidable (length (now populations)) k (now tree) ⌝ }
+    requires { ⌜ ClaimsFit (now populations) (now seats) × Decidable (length (now populations)) k (now tree) ⌝ }
     ensures { λ _. ⌜ Decided method up (now (populations .entry)) (now (seats .entry)) k (now (tree .entry)) (now (tree .exit)) ⌝ }
 {
     let won = better_of(method, up, populations, seats, tree[2 * k], tree[2 * k + 1]);
@@ -38,7 +38,7 @@ fn decide(
 
 // Decides every inner place, from the last to the root.
 pub fn build(method: Method, up: bool, populations: &[u64], seats: &[u64], tree: &mut [usize])
-    requires { ⌜ AllCounted (now populations) (now seats) × Planted (length (now populations)) (length (now populations)) (now tree) ⌝ }
+    requires { ⌜ ClaimsFit (now populations) (now seats) × Planted (length (now populations)) (length (now populations)) (now tree) ⌝ }
     ensures { λ _. ⌜ Played method up (now (populations .entry)) (now (seats .entry)) (now (tree .exit)) ⌝ }
 {
     let mut k = populations.len() - 1;
@@ -50,7 +50,7 @@ pub fn build(method: Method, up: bool, populations: &[u64], seats: &[u64], tree:
 
 // The place beside k: the two meet at the place half as far.
 fn beside_of(k: usize) -> usize
-    requires { ⌜ k < 18446744073709551615 ⌝ }
+    requires { ⌜ k + 1 < 2 ^ 64 ⌝ }
     ensures { λ r. ⌜ r ≡ beside k ⌝ }
 {
     if k % 2 == 0 {
@@ -68,7 +68,7 @@ pub fn replay(
     place: usize,
     tree: &mut [usize],
 )
-    requires { ⌜ AllCounted (now populations) (now seats) × Replays method up (now populations) (now seats) place (now tree) ⌝ }
+    requires { ⌜ ClaimsFit (now populations) (now seats) × Replays method up (now populations) (now seats) place (now tree) ⌝ }
     ensures { λ _. ⌜ Played method up (now (populations .entry)) (now (seats .entry)) (now (tree .exit)) ⌝ }
 {
     let mut won = place;

@@ -1,25 +1,25 @@
-// Largest remainders: each state has its whole part, and those who stand highest for them the seats that are left.
+// Largest remainders: each state has its whole part, and those of the highest precedence the seats that are left.
 use apportionment::STATE_LIMIT;
 ghost use mathlib.Core.Path.{_≡_};
 ghost use Prim.Native.Nat.{_*_, _/_, _^_, _≤_, _<_, min, max};
 ghost use lib.ListN.{length};
 ghost use Rattle.apportionment.specs.Remainders.{remainderSeats};
-ghost use Rattle.remainders.specs.inner.WholeParts.{Given};
-ghost use Rattle.remainders.specs.inner.Standing.{standingOf, withExtra};
+ghost use Rattle.apportionment.specs.inner.Problem.{Fillable};
+ghost use Rattle.remainders.specs.inner.Precedence.{precedenceOf, withExtra};
 ghost use Rattle.remainders.specs.inner.Bar.{reaching, extraBy, spareAfter};
 ghost use Rattle.remainders.specs.inner.Search.{NotBelow, NotAbove, DrawnUp, DrawnDown, HoldsBar, Narrower, Searchable, BarFound};
 ghost use Rattle.remainders.specs.inner.Seats.{Filled, HasRoom, RoomFrom, ServedTo, servedFrom, served};
 
-// The number by which a state of this population and whole part stands for a seat that is left, the larger first: its remainder. This
-// function alone says what a standing is; the search for the bar compares standings and knows nothing else of them.
-fn standing(population: u64, whole: u64, total: u64, house: u64) -> u64
+// The number by which states are served with the seats that are left, the larger first, for a state of this population and whole part:
+// its remainder. This function alone says what a precedence is; the search for the bar compares precedences and knows nothing else of them.
+fn precedence(population: u64, whole: u64, total: u64, house: u64) -> u64
     requires { ⌜ (population * house < 2 ^ 64) × (whole ≡ population * house / total) ⌝ }
-    ensures { λ r. ⌜ r ≡ standingOf population total house ⌝ }
+    ensures { λ r. ⌜ r ≡ precedenceOf population total house ⌝ }
 {
     population * house - whole * total
 }
 
-// The largest number there is: no state stands above it.
+// The largest number there is: no state is above it.
 const LARGEST: u64 = 18_446_744_073_709_551_615;
 
 // The lesser and the greater of two.
@@ -41,24 +41,24 @@ fn greater(a: u64, b: u64) -> u64
     a
 }
 
-// What filling hands back: the seats given as whole parts, and the least and the greatest standing.
+// What filling hands back: the seats given as whole parts, and the least and the greatest precedence.
 struct Parts {
     given: u64,
     least: u64,
     greatest: u64,
 }
 
-// Gives each state its whole part, and works out its standing while the share is at hand.
+// Gives each state its whole part, and works out its precedence while the share is at hand.
 fn fill_parts(
     populations: &[u64],
     total: u64,
     house: u64,
-    standings: &mut [u64],
+    precedences: &mut [u64],
     seats: &mut [u64],
 ) -> Parts
-    requires { ⌜ Given (now populations) total house (now seats) ⌝ }
-    requires { ⌜ length (now standings) ≡ length (now populations) ⌝ }
-    ensures { λ r. ⌜ Filled (now (populations .entry)) house (now (standings .exit)) (now (seats .exit)) r ⌝ }
+    requires { ⌜ Fillable (now populations) total house (now seats) ⌝ }
+    requires { ⌜ length (now precedences) ≡ length (now populations) ⌝ }
+    ensures { λ r. ⌜ Filled (now (populations .entry)) house (now (precedences .exit)) (now (seats .exit)) r ⌝ }
 {
     let mut given: u64 = 0;
     let mut least = LARGEST;
@@ -67,9 +67,9 @@ fn fill_parts(
     while i < populations.len() {
         let population = populations[i];
         let whole = population * house / total;
-        let own = standing(population, whole, total, house);
+        let own = precedence(population, whole, total, house);
         seats[i] = whole;
-        standings[i] = own;
+        precedences[i] = own;
         given += whole;
         least = lesser(least, own);
         greatest = greater(greatest, own);
@@ -82,14 +82,14 @@ fn fill_parts(
     }
 }
 
-// How many states have a standing of `least` or more.
-fn reaching(standings: &[u64], least: u64) -> u64
-    ensures { λ r. ⌜ r ≡ reaching (now (standings .entry)) least (length (now (standings .entry))) ⌝ }
+// How many states have a precedence of `least` or more.
+fn reaching(precedences: &[u64], least: u64) -> u64
+    ensures { λ r. ⌜ r ≡ reaching (now (precedences .entry)) least (length (now (precedences .entry))) ⌝ }
 {
     let mut count: u64 = 0;
     let mut j = 0;
-    while j < standings.len() {
-        if least <= standings[j] {
+    while j < precedences.len() {
+        if least <= precedences[j] {
             count += 1;
         }
         j += 1;
@@ -117,36 +117,36 @@ fn not_above(own: u64, high: u64, none: u64) -> u64
     own
 }
 
-// The least standing from `low` to `high`, or `high` where there is none: no state stands at `low` or above it and below the answer.
-fn drawn_up(standings: &[u64], low: u64, high: u64) -> u64
+// The least precedence from `low` to `high`, or `high` where there is none: no state is at `low` or above it and below the answer.
+fn drawn_up(precedences: &[u64], low: u64, high: u64) -> u64
     requires { ⌜ low ≤ high ⌝ }
-    ensures { λ r. ⌜ DrawnUp (now (standings .entry)) low high (length (now (standings .entry))) r ⌝ }
+    ensures { λ r. ⌜ DrawnUp (now (precedences .entry)) low high (length (now (precedences .entry))) r ⌝ }
 {
     let mut best = high;
     let mut j = 0;
-    while j < standings.len() {
-        best = lesser(best, not_below(standings[j], low, high));
+    while j < precedences.len() {
+        best = lesser(best, not_below(precedences[j], low, high));
         j += 1;
     }
     best
 }
 
-// The greatest standing from `low` to `high`, or `low` where there is none: no state stands above the answer and at `high` or below.
-fn drawn_down(standings: &[u64], low: u64, high: u64) -> u64
+// The greatest precedence from `low` to `high`, or `low` where there is none: no state is above the answer and at `high` or below.
+fn drawn_down(precedences: &[u64], low: u64, high: u64) -> u64
     requires { ⌜ low ≤ high ⌝ }
-    ensures { λ r. ⌜ DrawnDown (now (standings .entry)) low high (length (now (standings .entry))) r ⌝ }
+    ensures { λ r. ⌜ DrawnDown (now (precedences .entry)) low high (length (now (precedences .entry))) r ⌝ }
 {
     let mut best = low;
     let mut j = 0;
-    while j < standings.len() {
-        best = greater(best, not_above(standings[j], high, low));
+    while j < precedences.len() {
+        best = greater(best, not_above(precedences[j], high, low));
         j += 1;
     }
     best
 }
 
 // Where the bar lies: from `low` to `high`, with so many states above `high`. The other two only say whether drawing an end in pays, and no
-// proof relies on them: it does where at most `over` states stand above a new upper end, or at least `from` at a new lower one or above.
+// proof relies on them: it does where at most `over` states are above a new upper end, or at least `from` at a new lower one or above.
 struct Range {
     low: u64,
     high: u64,
@@ -155,37 +155,37 @@ struct Range {
     from: u64,
 }
 
-// The lower end of what is left of a range: `low`, or drawn in where no state was cut off, or few at first, so that equal standings do not
-// keep the ends apart.
-fn lower_end(standings: &[u64], low: u64, high: u64, loose: bool) -> u64
+// The lower end of what is left of a range: `low`, or drawn in where no state was cut off, or few at first, so that equal precedences do
+// not keep the ends apart.
+fn lower_end(precedences: &[u64], low: u64, high: u64, loose: bool) -> u64
     requires { ⌜ low ≤ high ⌝ }
-    ensures { λ r. ⌜ DrawnUp (now (standings .entry)) low high (length (now (standings .entry))) r ⌝ }
+    ensures { λ r. ⌜ DrawnUp (now (precedences .entry)) low high (length (now (precedences .entry))) r ⌝ }
 {
     if loose {
-        return drawn_up(standings, low, high);
+        return drawn_up(precedences, low, high);
     }
     low
 }
 
 // The upper end, in the same way.
-fn upper_end(standings: &[u64], low: u64, high: u64, loose: bool) -> u64
+fn upper_end(precedences: &[u64], low: u64, high: u64, loose: bool) -> u64
     requires { ⌜ low ≤ high ⌝ }
-    ensures { λ r. ⌜ DrawnDown (now (standings .entry)) low high (length (now (standings .entry))) r ⌝ }
+    ensures { λ r. ⌜ DrawnDown (now (precedences .entry)) low high (length (now (precedences .entry))) r ⌝ }
 {
     if loose {
-        return drawn_down(standings, low, high);
+        return drawn_down(precedences, low, high);
     }
     high
 }
 
-// What is left of a range that is parted at `middle`: `middle` itself where just `left` states stand above it.
-fn parted(standings: &[u64], left: u64, range: Range, middle: u64) -> Range
-    requires { ⌜ HoldsBar (now standings) left range × (range .low ≤ middle) × (middle < range .high) ⌝ }
-    ensures { λ r. ⌜ HoldsBar (now (standings .entry)) left r × Narrower r range ⌝ }
+// What is left of a range that is parted at `middle`: `middle` itself where just `left` states are above it.
+fn parted(precedences: &[u64], left: u64, range: Range, middle: u64) -> Range
+    requires { ⌜ HoldsBar (now precedences) left range × (range .low ≤ middle) × (middle < range .high) ⌝ }
+    ensures { λ r. ⌜ HoldsBar (now (precedences .entry)) left r × Narrower r range ⌝ }
 {
     let low = range.low;
     let high = range.high;
-    let above = reaching(standings, middle + 1);
+    let above = reaching(precedences, middle + 1);
     if above == left {
         return Range {
             low: middle,
@@ -196,7 +196,7 @@ fn parted(standings: &[u64], left: u64, range: Range, middle: u64) -> Range
         };
     }
     if above < left {
-        let end = upper_end(standings, low, middle, above <= range.over);
+        let end = upper_end(precedences, low, middle, above <= range.over);
         return Range {
             low,
             high: end,
@@ -205,7 +205,7 @@ fn parted(standings: &[u64], left: u64, range: Range, middle: u64) -> Range
             from: range.from,
         };
     }
-    let end = lower_end(standings, middle + 1, high, range.from <= above);
+    let end = lower_end(precedences, middle + 1, high, range.from <= above);
     Range {
         low: end,
         high,
@@ -215,7 +215,7 @@ fn parted(standings: &[u64], left: u64, range: Range, middle: u64) -> Range
     }
 }
 
-// Where the bar would be if the standings were spread evenly.
+// Where the bar would be if the precedences were spread evenly.
 fn first_guess(low: u64, high: u64, left: u64, states: u64) -> u64
     requires { ⌜ (low < high) × (left ≤ states) × (0 < states) ⌝ }
     ensures { λ r. ⌜ (low ≤ r) × (r < high) ⌝ }
@@ -224,14 +224,17 @@ fn first_guess(low: u64, high: u64, left: u64, states: u64) -> u64
     last - (last - low) / states * left
 }
 
-// The bar: a standing with at most `left` states above it, and at least as many at it or above. What lies between the least and the
-// greatest standing is parted at a first guess, and then halved, until one number is left.
-fn bar_of(standings: &[u64], left: u64, least: u64, greatest: u64) -> Range
-    requires { ⌜ Searchable (now standings) left least greatest ⌝ }
-    ensures { λ r. ⌜ BarFound (now (standings .entry)) left r ⌝ }
+// One state in so many is few: where the first guess cuts off no more than that, drawing the end in at once saves more than it costs.
+const FEW_IN: u64 = 32;
+
+// The bar: a precedence with at most `left` states above it, and at least as many at it or above. What lies between the least and the
+// greatest precedence is parted at a first guess, and then halved, until one number is left.
+fn bar_of(precedences: &[u64], left: u64, least: u64, greatest: u64) -> Range
+    requires { ⌜ Searchable (now precedences) left least greatest ⌝ }
+    ensures { λ r. ⌜ BarFound (now (precedences .entry)) left r ⌝ }
 {
-    let states = standings.len() as u64;
-    let few = states / 32;
+    let states = precedences.len() as u64;
+    let few = states / FEW_IN;
     let most = states - few;
     let all = Range {
         low: least,
@@ -244,15 +247,15 @@ fn bar_of(standings: &[u64], left: u64, least: u64, greatest: u64) -> Range
         return all;
     }
     let guess = first_guess(least, greatest, left, states);
-    let mut range = parted(standings, left, all, guess);
+    let mut range = parted(precedences, left, all, guess);
     while range.low < range.high {
         let middle = range.low + (range.high - range.low) / 2;
-        range = parted(standings, left, range, middle);
+        range = parted(precedences, left, range, middle);
     }
     range
 }
 
-// The seat beyond its whole part of a state that stands at `own`, with `spare` seats for those at the bar.
+// The seat beyond its whole part of a state of precedence `own`, with `spare` seats for those at the bar.
 fn extra_seat(own: u64, bar: u64, spare: u64) -> u64
     ensures { λ r. ⌜ r ≡ extraBy own bar spare ⌝ }
 {
@@ -282,17 +285,17 @@ fn spare_after(own: u64, bar: u64, spare: u64) -> u64
 }
 
 // Serves the states in register order until no seat is to spare, and answers the place reached.
-fn serve_spare(standings: &[u64], bar: u64, spare: u64, seats: &mut [u64]) -> usize
-    requires { ⌜ HasRoom (now standings) (now seats) ⌝ }
-    ensures { λ r. ⌜ ServedTo (now (standings .entry)) bar spare (now (seats .entry)) r (now (seats .exit)) ⌝ }
+fn serve_spare(precedences: &[u64], bar: u64, spare: u64, seats: &mut [u64]) -> usize
+    requires { ⌜ HasRoom (now precedences) (now seats) ⌝ }
+    ensures { λ r. ⌜ ServedTo (now (precedences .entry)) bar spare (now (seats .entry)) r (now (seats .exit)) ⌝ }
 {
     let mut rest = spare;
     let mut i = 0;
-    while i < standings.len() {
+    while i < precedences.len() {
         if rest == 0 {
             return i;
         }
-        let own = standings[i];
+        let own = precedences[i];
         let extra = extra_seat(own, bar, rest);
         seats[i] = seats[i] + extra;
         rest = spare_after(own, bar, rest);
@@ -302,52 +305,52 @@ fn serve_spare(standings: &[u64], bar: u64, spare: u64, seats: &mut [u64]) -> us
 }
 
 // Serves the states from a place on, with no seat to spare: apart from `serve_spare`, since no place here waits for the one before it.
-fn serve_above(standings: &[u64], bar: u64, from: usize, seats: &mut [u64])
-    requires { ⌜ RoomFrom (now standings) from (now seats) ⌝ }
-    ensures { λ _. ⌜ now (seats .exit) ≡ servedFrom (now (standings .entry)) bar from (now (seats .entry)) ⌝ }
+fn serve_above(precedences: &[u64], bar: u64, from: usize, seats: &mut [u64])
+    requires { ⌜ RoomFrom (now precedences) from (now seats) ⌝ }
+    ensures { λ _. ⌜ now (seats .exit) ≡ servedFrom (now (precedences .entry)) bar from (now (seats .entry)) ⌝ }
 {
     let mut i = from;
-    while i < standings.len() {
-        let extra = extra_seat(standings[i], bar, 0);
+    while i < precedences.len() {
+        let extra = extra_seat(precedences[i], bar, 0);
         seats[i] = seats[i] + extra;
         i += 1;
     }
 }
 
-// Adds to each state's seats what it has beyond its whole part; equal standings are served in register order.
-fn serve(standings: &[u64], bar: u64, spare: u64, seats: &mut [u64])
-    requires { ⌜ HasRoom (now standings) (now seats) ⌝ }
-    ensures { λ _. ⌜ now (seats .exit) ≡ served (now (standings .entry)) bar spare (now (seats .entry)) ⌝ }
+// Adds to each state's seats what it has beyond its whole part; equal precedences are served in register order.
+fn serve(precedences: &[u64], bar: u64, spare: u64, seats: &mut [u64])
+    requires { ⌜ HasRoom (now precedences) (now seats) ⌝ }
+    ensures { λ _. ⌜ now (seats .exit) ≡ served (now (precedences .entry)) bar spare (now (seats .entry)) ⌝ }
 {
-    let place = serve_spare(standings, bar, spare, &mut seats[..]);
-    serve_above(standings, bar, place, seats);
+    let place = serve_spare(precedences, bar, spare, &mut seats[..]);
+    serve_above(precedences, bar, place, seats);
 }
 
-// Gives the seats that are left to those who stand highest for them.
-fn give_left(standings: &[u64], left: u64, least: u64, greatest: u64, seats: &mut [u64])
-    requires { ⌜ Searchable (now standings) left least greatest ⌝ }
-    requires { ⌜ HasRoom (now standings) (now seats) ⌝ }
-    ensures { λ _. ⌜ now (seats .exit) ≡ withExtra (now (standings .entry)) left (now (seats .entry)) ⌝ }
+// Gives the seats that are left to those of the highest precedence.
+fn give_left(precedences: &[u64], left: u64, least: u64, greatest: u64, seats: &mut [u64])
+    requires { ⌜ Searchable (now precedences) left least greatest ⌝ }
+    requires { ⌜ HasRoom (now precedences) (now seats) ⌝ }
+    ensures { λ _. ⌜ now (seats .exit) ≡ withExtra (now (precedences .entry)) left (now (seats .entry)) ⌝ }
 {
-    let found = bar_of(standings, left, least, greatest);
-    serve(standings, found.low, left - found.above, seats);
+    let found = bar_of(precedences, left, least, greatest);
+    serve(precedences, found.low, left - found.above, seats);
 }
 
-// Fills `seats` with the allotment of largest remainders, with room for the standings lent by the caller.
+// Fills `seats` with the allotment of largest remainders, with room for the precedences lent by the caller.
 fn fill_with_room(
     populations: &[u64],
     total: u64,
     house: u64,
-    standings: &mut [u64],
+    precedences: &mut [u64],
     seats: &mut [u64],
 )
-    requires { ⌜ Given (now populations) total house (now seats) ⌝ }
-    requires { ⌜ length (now standings) ≡ length (now populations) ⌝ }
+    requires { ⌜ Fillable (now populations) total house (now seats) ⌝ }
+    requires { ⌜ length (now precedences) ≡ length (now populations) ⌝ }
     ensures { λ _. ⌜ now (seats .exit) ≡ remainderSeats (now (populations .entry)) house ⌝ }
 {
-    let parts = fill_parts(populations, total, house, standings, seats);
+    let parts = fill_parts(populations, total, house, precedences, seats);
     give_left(
-        standings,
+        precedences,
         house - parts.given,
         parts.least,
         parts.greatest,
@@ -357,10 +360,10 @@ fn fill_with_room(
 
 // Fills `seats` with the allotment of largest remainders.
 pub fn fill_remainders(populations: &[u64], total: u64, house: u64, seats: &mut [u64])
-    requires { ⌜ Given (now populations) total house (now seats) ⌝ }
+    requires { ⌜ Fillable (now populations) total house (now seats) ⌝ }
     ensures { λ _. ⌜ now (seats .exit) ≡ remainderSeats (now (populations .entry)) house ⌝ }
 {
     let states = populations.len();
-    let mut standings = [0u64; STATE_LIMIT];
-    fill_with_room(populations, total, house, &mut standings[..states], seats);
+    let mut precedences = [0u64; STATE_LIMIT];
+    fill_with_room(populations, total, house, &mut precedences[..states], seats);
 }

@@ -8,7 +8,7 @@ ghost use Prim.Native.Nat.{_*_, _≤_};
 ghost use lib.Dec.{ltb};
 ghost use Rattle.apportionment.specs.Limits.{sumLimit};
 ghost use Rattle.apportionment.specs.Divisor.{signpost, weightOf};
-ghost use Rattle.signposts.specs.inner.Claims.{held, claimFor, seatLimit, Counted};
+ghost use Rattle.signposts.specs.inner.Claims.{held, claimFor, seatLimit, ClaimFits};
 
 // A claim d(a) / w; also a signpost d(a), the claim of a weight of 1.
 pub struct Claim {
@@ -58,7 +58,7 @@ pub fn weight_of(method: Method, population: u64) -> u64
 
 // The claim of a state with so many seats to one more.
 pub fn claim_of(method: Method, population: u64, seats: u64) -> Claim
-    requires { ⌜ Counted population seats ⌝ }
+    requires { ⌜ ClaimFits population seats ⌝ }
     ensures { λ r. ⌜ r ≡ claimFor method population seats ⌝ }
 {
     let signpost = signpost_of(method, seats);

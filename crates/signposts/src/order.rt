@@ -7,11 +7,11 @@ ghost use Prim.Native.Nat.{_<_};
 ghost use Rattle.claims.specs.inner.Order.{wantsBefore, givesUpBefore};
 ghost use Rattle.claims.specs.inner.DivisorClaims.{methodTest};
 ghost use Rattle.claims.specs.inner.Tournament.{better};
-ghost use Rattle.signposts.specs.inner.Order.{AllCounted, Pair, firstToMove, movesBefore, noFewest};
+ghost use Rattle.signposts.specs.inner.Order.{ClaimsFit, BothClaimsFit, firstToMove, movesBefore, noFewest};
 
 // State i's next claim comes before state j's.
 fn wants_before(method: Method, populations: &[u64], seats: &[u64], i: usize, j: usize) -> bool
-    requires { ⌜ Pair (now populations) (now seats) i j ⌝ }
+    requires { ⌜ BothClaimsFit (now populations) (now seats) i j ⌝ }
     ensures { λ r. ⌜ r ≡ wantsBefore (methodTest method (now (populations .entry))) (now (seats .entry)) i j ⌝ }
 {
     let own = claim_of(method, populations[i], seats[i]);
@@ -21,7 +21,7 @@ fn wants_before(method: Method, populations: &[u64], seats: &[u64], i: usize, j:
 
 // State i has a seat to give up, and state j has none or had its last seat no later.
 fn gives_up_before(method: Method, populations: &[u64], seats: &[u64], i: usize, j: usize) -> bool
-    requires { ⌜ Pair (now populations) (now seats) i j ⌝ }
+    requires { ⌜ BothClaimsFit (now populations) (now seats) i j ⌝ }
     ensures { λ r. ⌜ r ≡ givesUpBefore noFewest (methodTest method (now (populations .entry))) (now (seats .entry)) i j ⌝ }
 {
     let own_seats = seats[i];
@@ -46,7 +46,7 @@ fn moves_before(
     i: usize,
     j: usize,
 ) -> bool
-    requires { ⌜ Pair (now populations) (now seats) i j ⌝ }
+    requires { ⌜ BothClaimsFit (now populations) (now seats) i j ⌝ }
     ensures { λ r. ⌜ r ≡ movesBefore method up (now (populations .entry)) (now (seats .entry)) i j ⌝ }
 {
     if up {
@@ -64,7 +64,7 @@ pub fn better_of(
     a: usize,
     b: usize,
 ) -> usize
-    requires { ⌜ Pair (now populations) (now seats) a b ⌝ }
+    requires { ⌜ BothClaimsFit (now populations) (now seats) a b ⌝ }
     ensures { λ r. ⌜ r ≡ better (movesBefore method up (now (populations .entry)) (now (seats .entry))) a b ⌝ }
 {
     if a < b {
@@ -81,7 +81,7 @@ pub fn better_of(
 
 // The state that moves first, by going through all.
 pub fn first_to_move(method: Method, up: bool, populations: &[u64], seats: &[u64]) -> usize
-    requires { ⌜ AllCounted (now populations) (now seats) ⌝ }
+    requires { ⌜ ClaimsFit (now populations) (now seats) ⌝ }
     ensures { λ r. ⌜ r ≡ firstToMove method up (now (populations .entry)) (now (seats .entry)) ⌝ }
 {
     let mut best = 0;

@@ -10,6 +10,10 @@ use native.Mathlib.Omega.{arith}
 use lib.Dec.{ltb}
 use borrow.Author.Tests.{ltb-true, ltb-false, lt-ltb, le-ltb}
 
+-- Half a word, the base that the code splits by.
+abbrev pub half : ℕ
+half = 4294967296
+
 -- ---- the product
 
 -- The partial products of a and b, each with what it takes over from the one before.

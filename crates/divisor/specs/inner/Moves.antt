@@ -8,9 +8,10 @@ use Prim.Native.Nat.{ℕ, _+_, _-_, _/_, _<_, _≤_, zero-le}
 use native.Mathlib.Omega.{arith}
 use native.Mathlib.Numerals.{add-one}
 use lib.ListN.{length, getD, set}
-use Rattle.apportionment.specs.Limits.{houseLimit, stateLimit}
+use Rattle.apportionment.specs.Limits.{houseLimit}
 use Rattle.apportionment.specs.Lists.{sum}
 use Rattle.apportionment.specs.inner.Lists.{entry-at-most-sum}
+use Rattle.apportionment.specs.inner.Problem.{States}
 use Rattle.apportionment.specs.Divisor.{oneMore}
 use Rattle.apportionment.specs.declared.Method.{Method}
 use Rattle.claims.specs.inner.Order.{firstUnmet, placed, placedTimes}
@@ -22,7 +23,7 @@ use Rattle.claims.specs.inner.TournamentOrders.{wants-passes, gives-passes, wan
 use Rattle.claims.specs.inner.DivisorClaims.{methodTest}
 use Rattle.claims.specs.inner.DivisorSeats.{method-order, withdrawn-at-most}
 use Rattle.signposts.specs.inner.Claims.{seatLimit}
-use Rattle.signposts.specs.inner.Order.{AllCounted, noFewest, movesBefore, firstToMove}
+use Rattle.signposts.specs.inner.Order.{ClaimsFit, noFewest, movesBefore, firstToMove}
 
 -- ---- what a move makes of the seats
 
@@ -54,11 +55,10 @@ Replays m up ps ss place tree =
 
 -- ---- one move
 
-moves-pass : (m : Method) (up : Bool) (ps ss : List ℕ) → 0 < length ps → ((i : ℕ) → i < length ps → 0 < getD ps i 0)
-    → Passes (length ps) (movesBefore m up ps ss)
+moves-pass : (m : Method) (up : Bool) {ps : List ℕ} (ss : List ℕ) {P : ℕ} → States ps P → Passes (length ps) (movesBefore m up ps ss)
 unfolding movesBefore
-moves-pass m true ps ss some peopled = wants-passes (method-order ps some peopled m) ss (λ i hi. zero-le)
-moves-pass m false ps ss some peopled = gives-passes (method-order ps some peopled m) ss
+moves-pass m true {ps} ss k = wants-passes (method-order ps (k .someState) (k .peopled) m) ss (λ i hi. zero-le)
+moves-pass m false {ps} ss k = gives-passes (method-order ps (k .someState) (k .peopled) m) ss
 
 moves-agree : (m : Method) (up : Bool) (ps ss : List ℕ) (j v : ℕ) → AgreeBut j (movesBefore m up ps ss) (movesBefore m up ps (set ss j v))
 unfolding movesBefore
@@ -73,9 +73,9 @@ moved-once m false ps ss first e = rw (e, first)
 
 -- A move can be made: the claims fit before and after it.
 pub record Turn (m : Method) (up : Bool) (ps ss tree : List ℕ) : Type 0 where
-  pub all : AllCounted ps ss
-  pub after : AllCounted ps (movedOnce m up ps ss)
-  pub peopled : (i : ℕ) → i < length ps → 0 < getD ps i 0
+  pub states : States ps (sum ps)
+  pub all : ClaimsFit ps ss
+  pub after : ClaimsFit ps (movedOnce m up ps ss)
   pub played : Played m up ps ss tree
 
 -- It was made.
@@ -85,15 +85,14 @@ pub record Turned (m : Method) (up : Bool) (ps ss after tree : List ℕ) : Type 
 
 module _ {m : Method} {up : Bool} {ps ss tree : List ℕ} (k : Turn m up ps ss tree) where
   pub root-lt : getD tree 1 0 < length ps
-  root-lt = winner-lt (k .played) 1 (omega arith) (omega (arith, k .all .some))
+  root-lt = winner-lt (k .played) 1 (omega arith) (omega (arith, k .all .someState))
 
   pub root-within : getD tree 1 0 < length ss
   root-within = omega (arith, root-lt, k .all .sameLength)
 
   -- The state at the root moves, which leaves its way up due.
   pub root-moved : {v : ℕ} → v ≡ movedBy up (getD ss (getD tree 1 0) 0) → set ss (getD tree 1 0) v ≡ movedOnce m up ps ss
-  root-moved e =
-      moved-once m up ps ss (root-is-first (k .played) (moves-pass m up ps ss (k .all .some) (k .peopled)) (k .all .some)) e
+  root-moved e = moved-once m up ps ss (root-is-first (k .played) (moves-pass m up ss (k .states)) (k .all .someState)) e
 
   pub root-replays : (v : ℕ) → Replays m up ps (set ss (getD tree 1 0) v) (getD tree 1 0) tree
   root-replays v = (root-lt, replaying-start (k .played) (getD tree 1 0) (moves-agree m up ps ss (getD tree 1 0) v))
@@ -102,9 +101,8 @@ module _ {m : Method} {up : Bool} {ps ss tree : List ℕ} (k : Turn m up ps ss t
 
 -- Seats of which so many can be moved.
 pub record Moves (up : Bool) (ps ss : List ℕ) (times : ℕ) : Type 0 where
-  pub all : AllCounted ps ss
-  pub few : length ps ≤ stateLimit
-  pub peopled : (i : ℕ) → i < length ps → 0 < getD ps i 0
+  pub states : States ps (sum ps)
+  pub all : ClaimsFit ps ss
   pub room : up ≡ true → sum ss + times ≤ houseLimit
 
 pub moved-none : (m : Method) (up : Bool) (ps ss : List ℕ) → movedSeats m up ps ss 0 ≡ ss
@@ -112,11 +110,11 @@ unfolding movedSeats placedTimes withdrawnTimes
 moved-none m true ps ss = refl
 moved-none m false ps ss = refl
 
-pub moved-more : (m : Method) (up : Bool) (ps before : List ℕ) (done : ℕ) {ss : List ℕ} → ss ≡ movedSeats m up ps before done
-    → movedOnce m up ps ss ≡ movedSeats m up ps before (done + 1)
+pub moved-more : (m : Method) (up : Bool) (ps before : List ℕ) (done : ℕ) {ss after : List ℕ} → ss ≡ movedSeats m up ps before done
+    → after ≡ movedOnce m up ps ss → after ≡ movedSeats m up ps before (done + 1)
 unfolding movedOnce movedSeats placedTimes withdrawnTimes
-moved-more m true ps before done so-far = rw (so-far, add-one done)
-moved-more m false ps before done so-far = rw (so-far, add-one done)
+moved-more m true ps before done so-far once = once ∙ rw (so-far, add-one done)
+moved-more m false ps before done so-far once = once ∙ rw (so-far, add-one done)
 
 moved-length : (m : Method) (up : Bool) (ps before : List ℕ) (done : ℕ) → length (movedSeats m up ps before done) ≡ length before
 unfolding movedSeats
@@ -130,20 +128,20 @@ moved-few m true {ps} {before} k done h i l =
     omega (
       arith,
       k .room refl,
-      sum-placedTimes (length ps) (methodTest m ps) before done (k .all .some) (k .all .sameLength),
+      sum-placedTimes (length ps) (methodTest m ps) before done (k .all .someState) (k .all .sameLength),
       entry-at-most-sum (placedTimes (methodTest m ps) (length ps) before done) i,
     )
 moved-few m false {ps} {before} k done h i l =
-    omega (arith, k .all .counted i l .seats, withdrawn-at-most noFewest (methodTest m ps) (length ps) before done i)
+    omega (arith, k .all .each i l .seatsWithin, withdrawn-at-most noFewest (methodTest m ps) (length ps) before done i)
 
 -- The seats after some of the moves are within bounds.
-pub moved-counted : (m : Method) {up : Bool} {ps before : List ℕ} {times : ℕ} → Moves up ps before times
-    → (done : ℕ) → done ≤ times → {ss : List ℕ} → ss ≡ movedSeats m up ps before done → AllCounted ps ss
-moved-counted m {up} {ps} {before} k done h so-far =
+pub moved-fits : (m : Method) {up : Bool} {ps before : List ℕ} {times : ℕ} → Moves up ps before times
+    → (done : ℕ) → done ≤ times → {ss : List ℕ} → ss ≡ movedSeats m up ps before done → ClaimsFit ps ss
+moved-fits m {up} {ps} {before} k done h so-far =
     record {
-      some = k .all .some;
+      someState = k .all .someState;
       sameLength = ap length so-far ∙ moved-length m up ps before done ∙ k .all .sameLength;
-      counted = λ i l. record { people = k .all .counted i l .people; seats = rw so-far (moved-few m up k done h i l) };
+      each = λ i l. record { peopleWithin = k .all .each i l .peopleWithin; seatsWithin = rw so-far (moved-few m up k done h i l) };
     }
 
 -- ---- by a tournament
@@ -161,12 +159,12 @@ module _ {m : Method} {up : Bool} {ps before : List ℕ} where
     pub moving-turn : {times : ℕ} → Moves up ps before times → done < times → Turn m up ps ss tree
     moving-turn k h =
         record {
-          all = moved-counted m k done (omega arith) (so-far .seats);
-          after = moved-counted m k (done + 1) (omega arith) (moved-more m up ps before done (so-far .seats));
-          peopled = k .peopled;
+          states = k .states;
+          all = moved-fits m k done (omega arith) (so-far .seats);
+          after = moved-fits m k (done + 1) (omega arith) (moved-more m up ps before done (so-far .seats) refl);
           played = so-far .played;
         }
 
     pub moving-more : {after tree′ : List ℕ} → Turned m up ps ss after tree′ → Moving m up ps before (done + 1) after tree′
     moving-more turned =
-        record { seats = turned .seats ∙ moved-more m up ps before done (so-far .seats); played = turned .played }
+        record { seats = moved-more m up ps before done (so-far .seats) (turned .seats); played = turned .played }

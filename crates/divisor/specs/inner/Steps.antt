@@ -6,9 +6,9 @@ use mathlib.Core.List.{List}
 use Prim.Native.Nat.{ℕ, _+_, _-_, _≤_, _<_}
 use native.Mathlib.Omega.{arith}
 use lib.ListN.{length, getD}
-use Rattle.apportionment.specs.Limits.{sumLimit}
 use Rattle.apportionment.specs.Lists.{sum, listOf}
-use Rattle.apportionment.specs.inner.Lists.{entry-at-most-sum, sum-listOf-zero}
+use Rattle.apportionment.specs.inner.Lists.{sum-listOf-zero}
+use Rattle.apportionment.specs.inner.Problem.{States, Fillable, entry-at-most-total}
 use Rattle.apportionment.specs.Divisor.{divisorSeats}
 use Rattle.apportionment.specs.declared.Method.{Method}
 use Rattle.claims.specs.inner.Order.{ClaimOrder, Standing}
@@ -17,9 +17,9 @@ use Rattle.claims.specs.inner.Standing.{sum-placedTimes, placedTimes-standing, 
 use Rattle.claims.specs.inner.DivisorRounding.{rounded-standing}
 use Rattle.claims.specs.inner.DivisorSeats.{rounded-seats-at-most, method-order, standing-is-divisor}
 use Rattle.signposts.specs.inner.Claims.{aimLimit}
-use Rattle.signposts.specs.inner.Order.{AllCounted}
+use Rattle.signposts.specs.inner.Order.{ClaimsFit}
 use Rattle.divisor.specs.inner.Moves.{Moves, movedSeats}
-use Rattle.divisor.specs.inner.Rounding.{Problem, Filled, filled-length}
+use Rattle.divisor.specs.inner.Rounding.{Filled, filled-length}
 
 -- Rounded seats, for whichever house, and how many they are.
 pub record Started (m : Method) (ps ss : List ℕ) (given : ℕ) : Type 0 where
@@ -27,22 +27,22 @@ pub record Started (m : Method) (ps ss : List ℕ) (given : ℕ) : Type 0 where
   pub aimFits : aim ≤ aimLimit
   pub filled : Filled m ps aim ss given
 
-module _ {m : Method} {ps before ss : List ℕ} {P H given : ℕ} (k : Problem ps before P H) (start : Started m ps ss given) where
+module _ {m : Method} {ps before ss : List ℕ} {P H given : ℕ} (k : Fillable ps P H before) (start : Started m ps ss given) where
   start-sum : sum ss ≡ given
   start-sum = ap sum (start .filled .seats) ∙ sym (start .filled .total)
 
-  people-fit : (i : ℕ) → getD ps i 0 ≤ sumLimit
-  people-fit i = omega (arith, k .states .summed, k .states .sumFits, entry-at-most-sum ps i)
+  states : States ps P
+  states = k .problem .states
 
-  start-counted : AllCounted ps ss
-  start-counted =
+  start-fits : ClaimsFit ps ss
+  start-fits =
       record {
-        some = k .states .some;
+        someState = states .someState;
         sameLength = filled-length (start .filled);
-        counted =
+        each =
             λ i l. record {
-              people = people-fit i;
-              seats =
+              peopleWithin = omega (arith, entry-at-most-total states i, states .sumWithin);
+              seatsWithin =
                   omega (
                     arith,
                     start .aimFits,
@@ -55,25 +55,24 @@ module _ {m : Method} {ps before ss : List ℕ} {P H given : ℕ} (k : Problem p
   pub start-moves : (up : Bool) {times : ℕ} → (up ≡ true → given + times ≤ H) → Moves up ps ss times
   start-moves up fits =
       record {
-        all = start-counted;
-        few = k .states .few;
-        peopled = k .states .peopled;
-        room = λ e. omega (arith, start-sum, k .houseFits, fits e);
+        states = rw (states .sums) at states;
+        all = start-fits;
+        room = λ e. omega (arith, start-sum, k .problem .houseWithin, fits e);
       }
 
   -- Rounded seats stand, so the steps lead to the method's allotment, whichever house they were rounded for.
   start-stands : Standing (length ps) (λ _. 0) (methodTest m ps) ss
-  start-stands = rw (start .filled .seats) (rounded-standing ps (k .states .some) (k .states .peopled) m (start .aim))
+  start-stands = rw (start .filled .seats) (rounded-standing ps (states .someState) (states .peopled) m (start .aim))
 
   order : ClaimOrder (length ps) (λ _. 0) (methodTest m ps)
-  order = method-order ps (k .states .some) (k .states .peopled) m
+  order = method-order ps (states .someState) (states .peopled) m
 
-  pub withdrawn-is-divisor : H < given → movedSeats m false ps ss (given - H) ≡ divisorSeats m ps H
+  pub withdrawn-is-divisor : H < given → {after : List ℕ} → after ≡ movedSeats m false ps ss (given - H) → after ≡ divisorSeats m ps H
   unfolding movedSeats
-  withdrawn-is-divisor h =
-      let some = k .states .some in
+  withdrawn-is-divisor h e =
+      let some = states .someState in
       let enough : sum (listOf (λ _. 0) (length ps)) + (given - H) ≤ sum ss = omega (arith, start-sum, sum-listOf-zero (length ps)) in
-      standing-is-divisor ps some (k .states .peopled) m _ H
+      e ∙ standing-is-divisor ps some (states .peopled) m _ H
       (withdrawnTimes-standing (length ps) (λ _. 0) (methodTest m ps) order ss (given - H) some start-stands enough)
       (omega (
         arith,
@@ -81,10 +80,10 @@ module _ {m : Method} {ps before ss : List ℕ} {P H given : ℕ} (k : Problem p
         sum-withdrawnTimes (length ps) (λ _. 0) (methodTest m ps) order ss (given - H) some (filled-length (start .filled)) enough,
       ))
 
-  pub placed-is-divisor : given ≤ H → movedSeats m true ps ss (H - given) ≡ divisorSeats m ps H
+  pub placed-is-divisor : given ≤ H → {after : List ℕ} → after ≡ movedSeats m true ps ss (H - given) → after ≡ divisorSeats m ps H
   unfolding movedSeats
-  placed-is-divisor h =
-      let some = k .states .some in
-      standing-is-divisor ps some (k .states .peopled) m _ H
+  placed-is-divisor h e =
+      let some = states .someState in
+      e ∙ standing-is-divisor ps some (states .peopled) m _ H
       (placedTimes-standing (length ps) (λ _. 0) (methodTest m ps) order ss (H - given) some start-stands)
       (omega (arith, start-sum, sum-placedTimes (length ps) (methodTest m ps) ss (H - given) some (filled-length (start .filled))))

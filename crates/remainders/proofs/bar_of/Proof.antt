@@ -8,10 +8,10 @@ use Rattle.remainders.proofs.bar_of.Statement.{statement}
 use Rattle.remainders.proofs.bar_of.Tie as tie
 
 abbrev Inv-loop : tie.InvT-loop
-Inv-loop standings left least greatest states few most guess range₀ range = HoldsBar standings left range
+Inv-loop precedences left least greatest states few most guess range₀ range = HoldsBar precedences left range
 
 abbrev μ-loop : tie.MeasureT-loop
-μ-loop standings left least greatest states few most guess range₀ range = range .high - range .low
+μ-loop precedences left least greatest states few most guess range₀ range = range .high - range .low
 
 sub-most : tie.Need-sub-most Inv-loop μ-loop
 sub-most c = search needs
@@ -19,8 +19,8 @@ sub-most c = search needs
 returns : tie.Need-returns Inv-loop μ-loop
 returns c =
     let start = c .before .before in
-    let whole = whole-holds-bar (start .args .standings .now) (start .args .left) _ _ _ _ (start .pre) in
-    one-number-is-bar (start .args .standings .now) (start .args .left) _ whole (omega (arith, c .if1 .taken))
+    let whole = whole-holds-bar (start .args .precedences .now) (start .args .left) _ _ _ _ (start .pre) in
+    one-number-is-bar (start .args .precedences .now) (start .args .left) _ whole (omega (arith, c .if1 .taken))
 
 first-guess-requires : tie.Need-first-guess-requires Inv-loop μ-loop
 first-guess-requires c κs = search needs
@@ -28,7 +28,7 @@ first-guess-requires c κs = search needs
 parted-requires : tie.Need-parted-requires Inv-loop μ-loop
 parted-requires c κs =
     let start = c .before .before .before in (
-      whole-holds-bar (start .args .standings .now) (start .args .left) _ _ _ _ (start .pre),
+      whole-holds-bar (start .args .precedences .now) (start .args .left) _ _ _ _ (start .pre),
       c .first-guess .ensures .0,
       c .first-guess .ensures .1,
     )
@@ -55,7 +55,7 @@ returns-2 : tie.Need-returns-2 Inv-loop μ-loop
 returns-2 c =
     let at-loop = c .before .before in
     let start = at-loop .before .before .before .before .before in
-    one-number-is-bar (start .args .standings .now) (start .args .left) _ (at-loop .loop .inv) (c .if2 .left)
+    one-number-is-bar (start .args .precedences .now) (start .args .left) _ (at-loop .loop .inv) (c .if2 .left)
 
 pub bar-of-spec : {M : Type 1} → statement M
 bar-of-spec =

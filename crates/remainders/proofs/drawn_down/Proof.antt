@@ -7,21 +7,21 @@ use Prim.Native.Nat.{_+_, _-_, _≤_}
 use native.Mathlib.Omega.{arith}
 use lib.ListN.{length}
 use borrow.Author.Needs.{needs}
-use Rattle.remainders.specs.inner.Standing.{reaches}
+use Rattle.remainders.specs.inner.Precedence.{reaches}
 use Rattle.remainders.specs.inner.Search.{DrawnDown, drawn-down-on}
 use Rattle.remainders.proofs.drawn_down.Statement.{statement}
 use Rattle.remainders.proofs.drawn_down.Tie as tie
 
 abbrev Inv-loop : tie.InvT-loop
-Inv-loop standings low high best₀ j₀ best j = (j ≤ length standings) × DrawnDown standings low high j best
+Inv-loop precedences low high best₀ j₀ best j = (j ≤ length precedences) × DrawnDown precedences low high j best
 
 abbrev μ-loop : tie.MeasureT-loop
-μ-loop standings low high best₀ j₀ best j = length standings - j
+μ-loop precedences low high best₀ j₀ best j = length precedences - j
 
 loop-holds : tie.Need-loop-holds Inv-loop μ-loop
 loop-holds c =
     let start = c .before in
-    let xs = start .args .standings .now in
+    let xs = start .args .precedences .now in
     let none = count-none (reaches xs (start .args .low + 1)) ∙ sym (count-none (reaches xs (start .args .high + 1))) in
     (omega arith, record { within = omega arith; notAbove = start .pre; same = none })
 
@@ -55,7 +55,7 @@ loop-again c =
 returns : tie.Need-returns Inv-loop μ-loop
 returns c =
     let at-loop = c .before in
-    let xs = at-loop .before .before .args .standings .now in
+    let xs = at-loop .before .before .args .precedences .now in
     let all : at-loop .loop .j ≡ length xs = omega (arith, c .loop-test .left) in
     rw all at (at-loop .loop .inv .1)
 

@@ -7,22 +7,22 @@ use Prim.Native.Nat.{_-_, _≤_}
 use native.Mathlib.Omega.{arith}
 use lib.ListN.{length}
 use borrow.Author.Needs.{needs}
-use Rattle.remainders.specs.inner.Standing.{reaches}
+use Rattle.remainders.specs.inner.Precedence.{reaches}
 use Rattle.remainders.specs.inner.Search.{DrawnUp, drawn-up-on}
 use Rattle.remainders.proofs.drawn_up.Statement.{statement}
 use Rattle.remainders.proofs.drawn_up.Tie as tie
 
 abbrev Inv-loop : tie.InvT-loop
-Inv-loop standings low high best₀ j₀ best j = (j ≤ length standings) × DrawnUp standings low high j best
+Inv-loop precedences low high best₀ j₀ best j = (j ≤ length precedences) × DrawnUp precedences low high j best
 
 abbrev μ-loop : tie.MeasureT-loop
-μ-loop standings low high best₀ j₀ best j = length standings - j
+μ-loop precedences low high best₀ j₀ best j = length precedences - j
 
 loop-holds : tie.Need-loop-holds Inv-loop μ-loop
 loop-holds c =
     let start = c .before in
-    let xs = start .args .standings .now in
-    let none = count-none (reaches xs (start .args .high)) ∙ sym (count-none (reaches xs (start .args .low))) in
+    let xs = start .args .precedences .now in
+    let none = count-none (reaches xs (start .args .low)) ∙ sym (count-none (reaches xs (start .args .high))) in
     (omega arith, record { notBelow = start .pre; within = omega arith; same = none })
 
 mul-not-below : tie.Need-mul-not-below Inv-loop μ-loop
@@ -55,7 +55,7 @@ loop-again c =
 returns : tie.Need-returns Inv-loop μ-loop
 returns c =
     let at-loop = c .before in
-    let xs = at-loop .before .before .args .standings .now in
+    let xs = at-loop .before .before .args .precedences .now in
     let all : at-loop .loop .j ≡ length xs = omega (arith, c .loop-test .left) in
     rw all at (at-loop .loop .inv .1)
 

@@ -1,5 +1,5 @@
--- `remainders::fill_parts` meets its contract. The loop's invariant: the numbers passed are standings and whole parts, the number given is
--- the sum of these, and no standing lies outside of the least and the greatest. The measure is what is left of the list.
+-- `remainders::fill_parts` meets its contract. The loop's invariant: the numbers passed are precedences and whole parts, the number given
+-- is the sum of these, and no precedence lies outside of the least and the greatest. The measure is what is left of the list.
 -- Assumes nothing.
 use mathlib.Core.Path.{_≡_, refl, ap, _∙_}
 use Prim.Native.Nat.{ℕ, _+_, _-_}
@@ -9,29 +9,30 @@ use borrow.Author.Needs.{needs}
 use Rattle.apportionment.specs.Lists.{sum, listOf}
 use Rattle.apportionment.specs.Remainders.{wholePart}
 use Rattle.apportionment.specs.inner.Lists.{sum-listOf-more}
+use Rattle.apportionment.specs.inner.Problem.{sum-above-zero}
 use Rattle.apportionment.specs.inner.Filling.{FilledTo, fill-starts, fill-goes-on, fill-ends}
-use Rattle.remainders.specs.inner.WholeParts.{whole-part-is, product-fits, sum-above-zero, whole-parts-within}
-use Rattle.remainders.specs.inner.Standing.{standingOf, standingAt}
+use Rattle.remainders.specs.inner.WholeParts.{share-fits, whole-part-is, whole-parts-within}
+use Rattle.remainders.specs.inner.Precedence.{precedenceOf, precedenceAt}
 use Rattle.remainders.specs.inner.Seats.{Spans, spans-none, spans-on}
 use Rattle.remainders.proofs.fill_parts.Statement.{statement}
 use Rattle.remainders.proofs.fill_parts.Tie as tie
 
 abbrev Inv-loop : tie.InvT-loop
-Inv-loop populations total house standings₀ seats₀ given₀ least₀ greatest₀ i₀ standings seats given least greatest i =
-    FilledTo (standingAt populations house) (length populations) i standings
+Inv-loop populations total house precedences₀ seats₀ given₀ least₀ greatest₀ i₀ precedences seats given least greatest i =
+    FilledTo (precedenceAt populations house) (length populations) i precedences
     × FilledTo (wholePart populations house) (length populations) i seats
     × (given ≡ sum (listOf (wholePart populations house) i))
-    × Spans (standingAt populations house) i least greatest
+    × Spans (precedenceAt populations house) i least greatest
 
 abbrev μ-loop : tie.MeasureT-loop
-μ-loop populations total house standings₀ seats₀ given₀ least₀ greatest₀ i₀ standings seats given least greatest i =
+μ-loop populations total house precedences₀ seats₀ given₀ least₀ greatest₀ i₀ precedences seats given least greatest i =
     length populations - i
 
 loop-holds : tie.Need-loop-holds Inv-loop μ-loop
 unfolding listOf sum
 loop-holds c =
     let start = c .before .before .before in
-    (fill-starts _ _ _ (start .pre .1), fill-starts _ _ _ (start .pre .0 .roomFits), refl, spans-none _ _ _)
+    (fill-starts _ _ _ (start .pre .1), fill-starts _ _ _ (start .pre .0 .sameLength), refl, spans-none _ _ _)
 
 mul-population : tie.Need-mul-population Inv-loop μ-loop
 mul-population c = search needs
@@ -43,21 +44,19 @@ mul-whole : tie.Need-mul-whole Inv-loop μ-loop
 mul-whole c =
     let at-loop = c .before .before in
     let start = at-loop .before .before .before .before in
-    let i = at-loop .loop .i in
-    record { fits = product-fits (start .args .populations .now) (start .args .house) i (start .pre .0 .passed) }
+    share-fits (start .pre .0 .problem) (at-loop .loop .i)
 
 div-whole : tie.Need-div-whole Inv-loop μ-loop
 div-whole c =
     let at-loop = c .before .before in
     let start = at-loop .before .before .before .before in
-    let some = sum-above-zero (start .args .populations .now) (start .args .house) (start .pre .0 .passed) in
-    omega (arith, some, start .pre .0 .totalIs)
+    omega (arith, sum-above-zero (start .pre .0 .problem .states))
 
-standing-requires : tie.Need-standing-requires Inv-loop μ-loop
-standing-requires c κs =
+precedence-requires : tie.Need-precedence-requires Inv-loop μ-loop
+precedence-requires c κs =
     let at-loop = c .before .before in
     let start = at-loop .before .before .before .before in
-    (product-fits (start .args .populations .now) (start .args .house) (at-loop .loop .i) (start .pre .0 .passed), refl)
+    (share-fits (start .pre .0 .problem) (at-loop .loop .i) .fits, refl)
 
 mul-seats : tie.Need-mul-seats Inv-loop μ-loop
 mul-seats c = search needs
@@ -65,26 +64,25 @@ mul-seats c = search needs
 slice-write-seats : tie.Need-slice-write-seats Inv-loop μ-loop
 slice-write-seats c = search needs
 
-mul-standings : tie.Need-mul-standings Inv-loop μ-loop
-mul-standings c = search needs
+mul-precedences : tie.Need-mul-precedences Inv-loop μ-loop
+mul-precedences c = search needs
 
-slice-write-standings : tie.Need-slice-write-standings Inv-loop μ-loop
-slice-write-standings c = search needs
+slice-write-precedences : tie.Need-slice-write-precedences Inv-loop μ-loop
+slice-write-precedences c = search needs
 
 add-given : tie.Need-add-given Inv-loop μ-loop
 add-given c =
     let at-loop = c .before .before .before in
     let start = at-loop .before .before .before .before in
-    let ps = start .args .populations .now in
-    let H = start .args .house in
+    let ok = start .pre .0 .problem in
     let i = at-loop .loop .i in
     omega (
       arith,
       at-loop .loop .inv .2,
-      whole-part-is ps (start .args .total) H i (start .pre .0 .totalIs),
-      sum-listOf-more (wholePart ps H) i,
-      whole-parts-within ps H (i + 1) (start .pre .0 .passed),
-      start .pre .0 .passed .houseWithin,
+      whole-part-is ok i,
+      sum-listOf-more (wholePart (start .args .populations .now) (start .args .house)) i,
+      whole-parts-within ok (i + 1),
+      ok .houseWithin,
     )
 
 lesser-requires : tie.Need-lesser-requires Inv-loop μ-loop
@@ -101,8 +99,8 @@ loop-less c = search needs
 
 loop-again : tie.Need-loop-again Inv-loop μ-loop
 loop-again c =
-    let stood = c .before .before in
-    let tested = stood .before .before in
+    let ordered = c .before .before in
+    let tested = ordered .before .before in
     let at-loop = tested .before in
     let start = at-loop .before .before .before .before in
     let ps = start .args .populations .now in
@@ -110,9 +108,9 @@ loop-again c =
     let i = at-loop .loop .i in
     let p = getD ps i 0 in
     let so-far = at-loop .loop .inv in
-    let same = start .pre .0 .totalIs in
-    let whole = whole-part-is ps (start .args .total) H i same in
-    let own = stood .standing .ensures ∙ ap (λ (P : ℕ). standingOf p P H) same in
+    let ok = start .pre .0 .problem in
+    let whole = whole-part-is ok i in
+    let own = ordered .precedence .ensures ∙ ap (λ (P : ℕ). precedenceOf p P H) (ok .states .sums) in
     let least = c .before .lesser .ensures in
     let greatest = c .greater .ensures in (
       fill-goes-on _ _ _ _ _ (tested .loop-test .taken) own (so-far .0),
@@ -137,7 +135,7 @@ returns c =
     let all : at-loop .loop .i ≡ length ps = omega (arith, so-far .0 .reached, c .loop-test .left) in
     let sumTo : ℕ → ℕ = λ (k : ℕ). sum (listOf (wholePart ps H) k) in
     record {
-      standingsAre = fill-ends _ _ _ _ (c .loop-test .left) (so-far .0);
+      precedencesAre = fill-ends _ _ _ _ (c .loop-test .left) (so-far .0);
       seatsAre = fill-ends _ _ _ _ (c .loop-test .left) (so-far .1);
       givenIs = so-far .2 ∙ ap sumTo all;
       spans = rw all at (so-far .3);
@@ -154,11 +152,11 @@ fill-parts-spec =
     shared-slice-read-population
     mul-whole
     div-whole
-    standing-requires
+    precedence-requires
     mul-seats
     slice-write-seats
-    mul-standings
-    slice-write-standings
+    mul-precedences
+    slice-write-precedences
     add-given
     lesser-requires
     greater-requires

@@ -1,4 +1,4 @@
--- `remainders::fill_with_room` meets its contract: whole parts, their standings and the seats that are left make the definition's seats.
+-- `remainders::fill_with_room` meets its contract: whole parts, their precedences and the seats that are left make the definition's seats.
 -- Assumes nothing.
 use mathlib.Core.Path.{_∙_}
 use native.Mathlib.Omega.{arith}
@@ -18,11 +18,10 @@ sub-give-left c =
     let filled = lists .before .before .before in
     let lent = filled .before .before .before in
     let start = lent .before .before .before in
-    let ps = start .args .populations .now in
     omega (
       arith,
       filled .fill-parts .ensures .givenIs,
-      whole-parts-within ps (start .args .house) (length ps) (start .pre .0 .passed),
+      whole-parts-within (start .pre .0 .problem) (length (start .args .populations .now)),
     )
 
 give-left-requires : tie.Need-give-left-requires
@@ -31,11 +30,9 @@ give-left-requires c κs =
     let filled = lists .before .before .before in
     let lent = filled .before .before .before in
     let start = lent .before .before .before in
-    let ps = start .args .populations .now in
-    let H = start .args .house in
-    let ok = start .pre .0 .passed in
+    let ok = start .pre .0 .problem in
     let parts = filled .fill-parts .ensures in
-    (is-searchable ps H _ _ _ ok parts, has-room ps H _ _ ok (parts .standingsAre) (parts .seatsAre))
+    (is-searchable ok parts, has-room ok parts)
 
 same-length : tie.Need-same-length
 same-length c = search needs
@@ -48,12 +45,7 @@ returns c =
     let given = c .before .before in
     let lists = given .before .before .before .before .before in
     let filled = lists .before .before .before in
-    let lent = filled .before .before .before in
-    let start = lent .before .before .before in
-    let ps = start .args .populations .now in
-    let parts = filled .fill-parts .ensures in
-    given .give-left .ensures
-    ∙ seats-are-allotted ps (start .args .house) _ _ _ (parts .standingsAre) (parts .seatsAre) (parts .givenIs)
+    given .give-left .ensures ∙ seats-are-allotted (filled .fill-parts .ensures)
 
 pub fill-with-room-spec : {M : Type 1} → statement M
 fill-with-room-spec =

@@ -17,7 +17,7 @@ returns c =
     let counted = c .before in
     let start = counted .before .before in
     let middle = start .args .middle in (
-      middle-holds-bar (start .args .standings .now) (start .args .left) middle _ _ _ (counted .reaching .ensures) (c .if1 .taken),
+      middle-holds-bar (start .args .precedences .now) (start .args .left) middle _ _ _ (counted .reaching .ensures) (c .if1 .taken),
       omega (arith, start .pre .1, start .pre .2),
     )
 

@@ -8,19 +8,19 @@ use Prim.Native.Nat.{_-_, _≤_}
 use native.Mathlib.Omega.{arith}
 use lib.ListN.{length}
 use borrow.Author.Needs.{needs}
-use Rattle.remainders.specs.inner.Standing.{count-reached, count-passed-by, reaches}
+use Rattle.remainders.specs.inner.Precedence.{count-reached, count-passed-by, reaches}
 use Rattle.remainders.specs.inner.Bar.{reaching}
 use Rattle.remainders.proofs.reaching.Statement.{statement}
 use Rattle.remainders.proofs.reaching.Tie as tie
 
 abbrev Inv-loop : tie.InvT-loop
-Inv-loop standings least count₀ j₀ count j = (j ≤ length standings) × (count ≡ reaching standings least j)
+Inv-loop precedences least count₀ j₀ count j = (j ≤ length precedences) × (count ≡ reaching precedences least j)
 
 abbrev μ-loop : tie.MeasureT-loop
-μ-loop standings least count₀ j₀ count j = length standings - j
+μ-loop precedences least count₀ j₀ count j = length precedences - j
 
 loop-holds : tie.Need-loop-holds Inv-loop μ-loop
-loop-holds c = (omega arith, sym (count-none (reaches (c .args .standings .now) (c .args .least))))
+loop-holds c = (omega arith, sym (count-none (reaches (c .args .precedences .now) (c .args .least))))
 
 mul-if1 : tie.Need-mul-if1 Inv-loop μ-loop
 mul-if1 c = search needs
@@ -31,7 +31,7 @@ shared-slice-read-if1 c = search needs
 add-count : tie.Need-add-count Inv-loop μ-loop
 add-count c =
     let start = c .before .before .before .before in
-    omega (arith, count-within (reaches (start .args .standings .now) (start .args .least)) (c .before .before .before .loop .j))
+    omega (arith, count-within (reaches (start .args .precedences .now) (start .args .least)) (c .before .before .before .loop .j))
 
 add-j : tie.Need-add-j Inv-loop μ-loop
 add-j c = search needs
@@ -42,7 +42,7 @@ loop-less c = search needs
 loop-again : tie.Need-loop-again Inv-loop μ-loop
 loop-again c =
     let start = c .before .before .before .before in
-    let xs = start .args .standings .now in
+    let xs = start .args .precedences .now in
     let least = start .args .least in
     let j = c .before .before .before .loop .j in
     ⊎-elim
@@ -53,7 +53,7 @@ loop-again c =
 returns : tie.Need-returns Inv-loop μ-loop
 returns c =
     let start = c .before .before in
-    c .before .loop .inv .1 ∙ ap (reaching (start .args .standings .now) (start .args .least)) (omega arith)
+    c .before .loop .inv .1 ∙ ap (reaching (start .args .precedences .now) (start .args .least)) (omega arith)
 
 pub reaching-spec : {M : Type 1} → statement M
 reaching-spec =

@@ -13,18 +13,18 @@ use Rattle.remainders.proofs.serve_above.Statement.{statement}
 use Rattle.remainders.proofs.serve_above.Tie as tie
 
 abbrev Inv-loop : tie.InvT-loop
-Inv-loop standings bar from seats₀ i₀ seats i =
-    FilledTo (servedFromAt standings bar from seats₀) (length seats₀) i seats
+Inv-loop precedences bar from seats₀ i₀ seats i =
+    FilledTo (servedFromAt precedences bar from seats₀) (length seats₀) i seats
     × ((k : ℕ) → i ≤ k → getD seats k 0 ≡ getD seats₀ k 0)
     × (from ≤ i)
 
 abbrev μ-loop : tie.MeasureT-loop
-μ-loop standings bar from seats₀ i₀ seats i = length standings - i
+μ-loop precedences bar from seats₀ i₀ seats i = length precedences - i
 
 loop-holds : tie.Need-loop-holds Inv-loop μ-loop
 loop-holds c =
     let start = c .before .before in
-    let xs = start .args .standings .now in (
+    let xs = start .args .precedences .now in (
       serving-from-starts xs (start .args .bar) _ _ (omega (arith, start .pre .reached, start .pre .sameLength)),
       (λ k h. refl),
       omega arith,
@@ -51,7 +51,7 @@ add-seats c =
     let at-loop = tested .before in
     let start = at-loop .before .before .before in
     let i = at-loop .loop .i in
-    let own = getD (start .args .standings .now) i 0 in
+    let own = getD (start .args .precedences .now) i 0 in
     omega (
       arith,
       at-loop .loop .inv .1 i (omega arith),
@@ -80,7 +80,7 @@ loop-again c =
     let seats = start .args .seats .now in
     let i = at-loop .loop .i in
     let kept = at-loop .loop .inv .1 in
-    let here = served-from-here (start .args .standings .now) (start .args .bar) (start .args .from) seats i (at-loop .loop .inv .2) in (
+    let here = served-from-here (start .args .precedences .now) (start .args .bar) (start .args .from) seats i (at-loop .loop .inv .2) in (
       fill-goes-on _ _ _ _ _
           (omega (arith, start .pre .sameLength, tested .loop-test .taken))
           (omega (arith, kept i (omega arith), c .before .extra-seat .ensures, here))

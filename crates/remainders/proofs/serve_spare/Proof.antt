@@ -13,13 +13,13 @@ use Rattle.remainders.proofs.serve_spare.Statement.{statement}
 use Rattle.remainders.proofs.serve_spare.Tie as tie
 
 abbrev Inv-loop : tie.InvT-loop
-Inv-loop standings bar spare seats₀ rest₀ i₀ seats rest i =
-    FilledTo (servedAt standings bar spare seats₀) (length seats₀) i seats
+Inv-loop precedences bar spare seats₀ rest₀ i₀ seats rest i =
+    FilledTo (servedAt precedences bar spare seats₀) (length seats₀) i seats
     × ((k : ℕ) → i ≤ k → getD seats k 0 ≡ getD seats₀ k 0)
-    × (rest ≡ spareAt standings bar spare i)
+    × (rest ≡ spareAt precedences bar spare i)
 
 abbrev μ-loop : tie.MeasureT-loop
-μ-loop standings bar spare seats₀ rest₀ i₀ seats rest i = length standings - i
+μ-loop precedences bar spare seats₀ rest₀ i₀ seats rest i = length precedences - i
 
 loop-holds : tie.Need-loop-holds Inv-loop μ-loop
 unfolding spareAt
@@ -54,7 +54,7 @@ add-seats c =
     let at-loop = tested .before in
     let start = at-loop .before .before .before in
     let i = at-loop .loop .i in
-    let own = getD (start .args .standings .now) i 0 in
+    let own = getD (start .args .precedences .now) i 0 in
     omega (
       arith,
       at-loop .loop .inv .1 i (omega arith),
@@ -83,7 +83,7 @@ loop-again c =
     let tested = c .before .before .before .before .before in
     let at-loop = tested .before in
     let start = at-loop .before .before .before in
-    let xs = start .args .standings .now in
+    let xs = start .args .precedences .now in
     let bar = start .args .bar in
     let i = at-loop .loop .i in
     let kept = at-loop .loop .inv .1 in

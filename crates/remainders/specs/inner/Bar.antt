@@ -1,8 +1,8 @@
--- Who has a seat that is left, told by a bar instead of by ranks: all who stand above it, and of those who stand at it the first, as
+-- Who has a seat that is left, told by a bar instead of by ranks: all who are above it, and of those at it the first, as
 -- many as there are seats to spare. The code finds the bar by halving, with far fewer comparisons than ranks take.
 -- Assumes nothing.
 use mathlib.Core.Path.{_≡_, refl, sym, _∙_}
-use mathlib.Core.Bool.{Bool, true, false, cond}
+use mathlib.Core.Bool.{Bool, cond}
 use mathlib.Core.Logic.{_⊎_, inl, inr}
 use mathlib.Core.List.{List}
 use Prim.Native.Nat.{ℕ, zero, suc, _+_, _-_, _≤_, _<_}
@@ -14,28 +14,28 @@ use lib.ListN.{length, getD}
 use borrow.Author.Tests.{ltb-true, ltb-false, leb-true, leb-false, lt-ltb, le-ltb, eq-eqb, ne-eqb}
 use Rattle.apportionment.specs.Lists.{sum, countBelow}
 use Rattle.apportionment.specs.inner.Lists.{entry-at-most-sum, count-none}
-use Rattle.remainders.specs.inner.Standing.{rankIn, extraIn, reaches, count-reached, count-passed-by, rank-in-parts}
+use Rattle.apportionment.specs.inner.Tests.{cond-both, either-way}
+use Rattle.remainders.specs.inner.Precedence.{rankIn, extraIn, reaches, count-reached, count-passed-by, rank-in-parts}
 
--- How many of the first k states reach a standing.
+-- How many of the first k states reach a precedence.
 abbrev pub reaching : (xs : List ℕ) (least k : ℕ) → ℕ
 reaching xs least k = countBelow (reaches xs least) k
 
--- ---- counts of those who reach a standing
+-- ---- counts of those who reach a precedence
 
 -- One place more is counted, or not.
-abbrev pub Counted : (xs : List ℕ) (least k : ℕ) → Type 0
+abbrev Counted : (xs : List ℕ) (least k : ℕ) → Type 0
 Counted xs least k =
     ((least ≤ getD xs k 0) × (reaching xs least (k + 1) ≡ 1 + reaching xs least k))
     ⊎ ((getD xs k 0 < least) × (reaching xs least (k + 1) ≡ reaching xs least k))
 
-pub counted : (xs : List ℕ) (least k : ℕ) → Counted xs least k
-counted xs least k = by-test (leb least (getD xs k 0)) refl
-  where
-    by-test : (t : Bool) → leb least (getD xs k 0) ≡ t → Counted xs least k
-    by-test true e = inl (leb-true least (getD xs k 0) e, count-reached xs least k (leb-true least (getD xs k 0) e))
-    by-test false e = inr (leb-false least (getD xs k 0) e, count-passed-by xs least k (leb-false least (getD xs k 0) e))
+counted : (xs : List ℕ) (least k : ℕ) → Counted xs least k
+counted xs least k =
+    either-way (leb least (getD xs k 0))
+    (λ e. inl (leb-true least (getD xs k 0) e, count-reached xs least k (leb-true least (getD xs k 0) e)))
+    (λ e. inr (leb-false least (getD xs k 0) e, count-passed-by xs least k (leb-false least (getD xs k 0) e)))
 
--- From place i on, a lower standing is reached at least as often as a higher one.
+-- From place i on, a lower precedence is reached at least as often as a higher one.
 falls-from : (xs : List ℕ) (low high i : ℕ) → low ≤ high → (d : ℕ)
     → reaching xs high (d + i) + reaching xs low i ≤ reaching xs low (d + i) + reaching xs high i
 falls-from xs low high i h zero = rw zero-add (omega arith)
@@ -59,14 +59,14 @@ pub falls : (xs : List ℕ) (low high k : ℕ) → low ≤ high → reaching xs 
 falls xs low high k h =
     omega (arith, falls-between xs low high 0 k h (omega arith), count-none (reaches xs low), count-none (reaches xs high))
 
--- Where every state stands at `low` or above, all are counted.
+-- Where every state is at `low` or above, all are counted.
 pub all-reach : (xs : List ℕ) (low : ℕ) → ((i : ℕ) → i < length xs → low ≤ getD xs i 0)
     → (k : ℕ) → k ≤ length xs → reaching xs low k ≡ k
 all-reach xs low h zero l = count-none (reaches xs low)
 all-reach xs low h (suc k) l =
     rw (← (add-one k)) (omega (arith, count-reached xs low k (h k (omega arith)), all-reach xs low h k (omega arith)))
 
--- Where no state stands above `top`, none is counted above it.
+-- Where no state is above `top`, none is counted above it.
 pub none-above : (xs : List ℕ) (top : ℕ) → ((i : ℕ) → i < length xs → getD xs i 0 ≤ top)
     → (k : ℕ) → k ≤ length xs → reaching xs (top + 1) k ≡ 0
 none-above xs top h zero l = count-none (reaches xs (top + 1))
@@ -81,27 +81,22 @@ pub record Bar (xs : List ℕ) (left bar : ℕ) : Type 0 where
   pub above : reaching xs (bar + 1) (length xs) ≤ left
   pub enough : left ≤ reaching xs bar (length xs)
 
--- A standing with just as many states above it as seats are left is a bar.
+-- A precedence with just as many states above it as seats are left is a bar.
 pub just-as-many : (xs : List ℕ) (left bar : ℕ) → reaching xs (bar + 1) (length xs) ≡ left → Bar xs left bar
 just-as-many xs left bar just =
     record { above = omega arith; enough = omega (arith, falls xs bar (bar + 1) (length xs) (omega arith)) }
 
--- Going down from where nobody stands, there is a bar.
+-- Going down from where nobody is, there is a bar.
 bar-below : (xs : List ℕ) (left : ℕ) → left ≤ length xs
     → (top : ℕ) → reaching xs (top + 1) (length xs) ≤ left → (bar : ℕ) × Bar xs left bar
 bar-below xs left few zero h =
     let all = all-reach xs 0 (λ (i : ℕ) (l : i < length xs). omega arith) (length xs) (omega arith) in
     (0, record { above = h; enough = omega (arith, all) })
-bar-below xs left few (suc top) h = by-test (leb (reaching xs (top + 1) (length xs)) left) refl (bar-below xs left few top)
-  where
-    by-test : (t : Bool) → leb (reaching xs (top + 1) (length xs)) left ≡ t
-        → (reaching xs (top + 1) (length xs) ≤ left → (bar : ℕ) × Bar xs left bar)
-        → (bar : ℕ) × Bar xs left bar
-    by-test true e lower = lower (leb-true (reaching xs (top + 1) (length xs)) left e)
-    by-test false e lower = (
-      suc top,
-      record { above = h; enough = rw (← (add-one top)) (omega (arith, leb-false (reaching xs (top + 1) (length xs)) left e)) },
-    )
+bar-below xs left few (suc top) h =
+    let above = reaching xs (top + 1) (length xs) in
+    either-way (leb above left)
+    (λ e. bar-below xs left few top (leb-true above left e))
+    (λ e. (suc top, record { above = h; enough = rw (← (add-one top)) (omega (arith, leb-false above left e)) }))
 
 pub bar-exists : (xs : List ℕ) (left : ℕ) → left ≤ length xs → (bar : ℕ) × Bar xs left bar
 bar-exists xs left few =
@@ -110,7 +105,7 @@ bar-exists xs left few =
 
 -- ---- serving by the bar
 
--- The seat beyond its whole part of a state that stands at `own`, with `spare` seats for those at the bar.
+-- The seat beyond its whole part of a state of precedence `own`, with `spare` seats for those at the bar.
 unfoldable pub extraBy : (own bar spare : ℕ) → ℕ
 extraBy own bar spare = cond (ltb bar own) 1 (cond (ltb own bar) 0 (cond (eqb spare 0) 0 1))
 
@@ -145,11 +140,7 @@ served-below own bar spare h =
 -- Once no seat is to spare, none is for a later state.
 none-after-none : (own bar : ℕ) → spareAfter own bar 0 ≡ 0
 unfolding spareAfter
-none-after-none own bar = by-test (eqb own bar)
-  where
-    by-test : (t : Bool) → cond t (0 - 1) 0 ≡ 0
-    by-test true = omega arith
-    by-test false = omega arith
+none-after-none own bar = cond-both (λ (x : ℕ). x ≡ 0) (eqb own bar) (0 - 1) 0 (λ e. omega arith) (λ e. refl)
 
 pub no-more-to-spare : (xs : List ℕ) (bar spare i k : ℕ) → i ≤ k → spareAt xs bar spare i ≡ 0 → spareAt xs bar spare k ≡ 0
 no-more-to-spare xs bar spare i k h e = let all : k - i + i ≡ k = omega arith in rw all at (on (k - i))
@@ -192,13 +183,11 @@ one-more-served xs bar spare k = by-place (counted xs bar k) (counted xs (bar + 
 
 pub at-most-one-served : (own bar spare : ℕ) → extraBy own bar spare ≤ 1
 unfolding extraBy
-at-most-one-served own bar spare = by-tests (ltb bar own) (ltb own bar) (eqb spare 0)
+at-most-one-served own bar spare =
+    small (ltb bar own) (omega arith) (small (ltb own bar) (omega arith) (small (eqb spare 0) (omega arith) (omega arith)))
   where
-    by-tests : (t u v : Bool) → cond t 1 (cond u 0 (cond v 0 1)) ≤ 1
-    by-tests true u v = omega arith
-    by-tests false true v = omega arith
-    by-tests false false true = omega arith
-    by-tests false false false = omega arith
+    small : (t : Bool) {x y : ℕ} → x ≤ 1 → y ≤ 1 → cond t x y ≤ 1
+    small t {x} {y} hx hy = cond-both (λ (z : ℕ). z ≤ 1) t x y (λ e. hx) (λ e. hy)
 
 -- The seats for those at the bar.
 abbrev pub spareFor : (xs : List ℕ) (left bar : ℕ) → ℕ
@@ -238,16 +227,13 @@ module _ (xs : List ℕ) (left bar : ℕ) (b : Bar xs left bar) where
 
   at-bar : (i : ℕ) → i < length xs → getD xs i 0 ≡ bar → extraIn xs left i ≡ cond (eqb (spareAt xs bar (spareFor xs left bar) i) 0) 0 1
   unfolding extraIn
-  at-bar i h even = by-test (ltb (rankIn xs i) left) refl (rank-at i h even) (spare-is xs bar (spareFor xs left bar) i)
-    where
-      by-test : (t : Bool) → ltb (rankIn xs i) left ≡ t
-          → rankIn xs i + reaching xs (bar + 1) i ≡ reaching xs bar i + reaching xs (bar + 1) (length xs)
-          → spareAt xs bar (spareFor xs left bar) i ≡ (spareFor xs left bar) + reaching xs (bar + 1) i - reaching xs bar i
-          → _≡_ {A = ℕ} (cond t 1 0) (cond (eqb (spareAt xs bar (spareFor xs left bar) i) 0) 0 1)
-      by-test true e place spare =
-          simp (ne-eqb (spareAt xs bar (spareFor xs left bar) i) 0 (λ z. omega (arith, ltb-true (rankIn xs i) left e, b .above)))
-      by-test false e place spare =
-          simp (eq-eqb (spareAt xs bar (spareFor xs left bar) i) 0 (omega (arith, ltb-false (rankIn xs i) left e, b .above)))
+  at-bar i h even =
+      let spare = spareAt xs bar (spareFor xs left bar) i in
+      let place = rank-at i h even in
+      let still = spare-is xs bar (spareFor xs left bar) i in
+      either-way (ltb (rankIn xs i) left)
+      (λ e. simp (e, ne-eqb spare 0 (λ z. omega (arith, ltb-true (rankIn xs i) left e, b .above))))
+      (λ e. simp (e, eq-eqb spare 0 (omega (arith, ltb-false (rankIn xs i) left e, b .above))))
 
   pub served-by-rank : (i : ℕ) → i < length xs → extraBy (getD xs i 0) bar (spareAt xs bar (spareFor xs left bar) i) ≡ extraIn xs left i
   unfolding extraIn

@@ -10,9 +10,9 @@ use lib.ListN.{length, getD}
 use Rattle.apportionment.specs.Lists.{sum, listOf}
 use Rattle.apportionment.specs.Remainders.{wholePart, seatsLeft, remainderSeats}
 use Rattle.apportionment.specs.inner.Lists.{listOf-places, length-listOf, sum-listOf-none, sum-listOf-more, sum-listOf-both, count-none}
-use Rattle.problem.specs.inner.Passed.{Passed}
+use Rattle.apportionment.specs.inner.Problem.{Problem}
 use Rattle.remainders.specs.inner.WholeParts.{wholeParts, whole-parts-within, left-within-states}
-use Rattle.remainders.specs.inner.Standing.{standingAt, standingsOf, extraIn, reaches}
+use Rattle.remainders.specs.inner.Precedence.{precedenceAt, precedencesOf, extraIn, reaches}
 use Rattle.remainders.specs.inner.Bar.{reaching, Bar, bar-exists, spareAt, spareFor, spare-is, one-more-served, served-by-rank}
 use Rattle.remainders.specs.inner.Seats.{parts-are-allotted}
 
@@ -51,16 +51,16 @@ extras-are-left xs left few = let found = bar-exists xs left few in extras-by-ba
 -- ---- the house
 
 -- The seats of largest remainders add up to the house.
-pub seats-sum-to-house : (ps : List ℕ) (H : ℕ) → Passed ps H → sum (remainderSeats ps H) ≡ H
+pub seats-sum-to-house : {ps : List ℕ} {P H : ℕ} → Problem ps P H → sum (remainderSeats ps H) ≡ H
 unfolding seatsLeft
-seats-sum-to-house ps H ok =
-    let xs = standingsOf ps H in
+seats-sum-to-house {ps} {P} {H} ok =
+    let xs = precedencesOf ps H in
     let wholes = wholeParts ps H in
     let left = seatsLeft ps H in
-    let long : length xs ≡ length ps = length-listOf (standingAt ps H) (length ps) in
+    let long : length xs ≡ length ps = length-listOf (precedenceAt ps H) (length ps) in
     let same : length wholes ≡ length xs = length-listOf (wholePart ps H) (length ps) ∙ sym long in
     let gone : sum (listOf (extraIn xs left) (length wholes)) ≡ left
-    = rw same (extras-are-left xs left (omega (arith, left-within-states ps H ok))) in
+    = rw same (extras-are-left xs left (omega (arith, left-within-states ok))) in
     let parts : sum (listOf (λ (i : ℕ). getD wholes i 0) (length wholes)) ≡ sum wholes = ap sum (listOf-places wholes) in
     let both = sum-listOf-both (λ (i : ℕ). getD wholes i 0) (extraIn xs left) (length wholes) in
-    ap sum (sym (parts-are-allotted ps H)) ∙ both ∙ omega (arith, whole-parts-within ps H (length ps) ok)
+    ap sum (sym (parts-are-allotted ps H)) ∙ both ∙ omega (arith, whole-parts-within ok (length ps))

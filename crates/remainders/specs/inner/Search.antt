@@ -1,98 +1,85 @@
--- The search for the bar: a range of standings that holds it is parted until one number is left. An end of the range is drawn in where no
--- state stands between, which changes no count; so equal standings do not keep the ends apart. `parted` and `bar_of` cite it.
+-- The search for the bar: a range of precedences that holds it is parted until one number is left. An end of the range is drawn in where no
+-- state is between, which changes no count; so equal precedences do not keep the ends apart. `parted` and `bar_of` cite it.
 -- Assumes nothing.
 use mathlib.Core.Path.{_≡_, sym, _∙_}
-use mathlib.Core.Logic.{_⊎_, inl, inr}
 use mathlib.Core.List.{List}
 use Prim.Native.Nat.{ℕ, _+_, _-_, _*_, _/_, _≤_, _<_, min, max}
 use native.Mathlib.Omega.{arith}
 use native.Mathlib.Nat.{mul-le-mul, div-mul-le-self, le-trans}
+use lib.Dec.{leb}
 use lib.ListN.{length, getD}
-use Rattle.remainders.specs.inner.Bar.{reaching, Counted, counted, falls, Bar, just-as-many}
+use borrow.Author.Tests.{leb-true, leb-false}
+use Rattle.apportionment.specs.inner.Tests.{either-way}
+use Rattle.remainders.specs.inner.Precedence.{count-reached, count-passed-by}
+use Rattle.remainders.specs.inner.Bar.{reaching, falls, Bar, just-as-many}
 use Rattle.remainders.specs.declared.Range.{Range}
 
 -- ---- an end drawn in
 
--- A standing that is not below `low`, or else another number; and one that is not above `high`.
+-- A precedence where it is not below `low`, and another number where it is; and so for one that is not above `high`.
 abbrev pub NotBelow : (own low none r : ℕ) → Type 0
-NotBelow own low none r = ((low ≤ own) × (r ≡ own)) ⊎ ((own < low) × (r ≡ none))
+NotBelow own low none r = (low ≤ own → r ≡ own) × (own < low → r ≡ none)
 
 abbrev pub NotAbove : (own high none r : ℕ) → Type 0
-NotAbove own high none r = ((own ≤ high) × (r ≡ own)) ⊎ ((high < own) × (r ≡ none))
+NotAbove own high none r = (own ≤ high → r ≡ own) × (high < own → r ≡ none)
 
--- From `low` up to `end` none of the first k states stands.
+-- From `low` up to `end` there is none of the first k states.
 pub record DrawnUp (xs : List ℕ) (low high k end : ℕ) : Type 0 where
   pub notBelow : low ≤ end
   pub within : end ≤ high
-  pub same : reaching xs end k ≡ reaching xs low k
+  pub same : reaching xs low k ≡ reaching xs end k
 
--- Above `end` and up to `high` none of the first k states stands.
+-- Above `end` and up to `high` there is none of the first k states.
 pub record DrawnDown (xs : List ℕ) (low high k end : ℕ) : Type 0 where
   pub within : low ≤ end
   pub notAbove : end ≤ high
   pub same : reaching xs (end + 1) k ≡ reaching xs (high + 1) k
 
--- A state reaches two standings, or neither.
-abbrev Alike : (own a b : ℕ) → Type 0
-Alike own a b = ((own < a) × (own < b)) ⊎ ((a ≤ own) × (b ≤ own))
+-- Where none of the first k states is between two precedences, none of one more is between two nearer ones if that one is not.
+still-none-between : (xs : List ℕ) (low near far high k : ℕ) → low ≤ near → near ≤ far → far ≤ high
+    → reaching xs low k ≡ reaching xs high k → (near ≤ getD xs k 0 → far ≤ getD xs k 0)
+    → reaching xs near (k + 1) ≡ reaching xs far (k + 1)
+still-none-between xs low near far high k above ordered below none next =
+    let so-far : reaching xs near k ≡ reaching xs far k
+    = omega (arith, falls xs low near k above, falls xs near far k ordered, falls xs far high k below) in
+    either-way (leb near (getD xs k 0))
+    (λ e.
+    let here = leb-true near (getD xs k 0) e in
+    omega (arith, count-reached xs near k here, count-reached xs far k (next here)))
+    (λ e.
+    let short = leb-false near (getD xs k 0) e in
+    omega (arith, count-passed-by xs near k short, count-passed-by xs far k (omega arith)))
 
--- Standings that are reached as often by the first k states are so by one more, if it reaches both or neither.
-reached-alike : (xs : List ℕ) (a b k : ℕ) → reaching xs a k ≡ reaching xs b k → Alike (getD xs k 0) a b
-    → reaching xs a (k + 1) ≡ reaching xs b (k + 1)
-reached-alike xs a b k e place = by-place place (counted xs a k) (counted xs b k)
-  where
-    by-place : Alike (getD xs k 0) a b → Counted xs a k → Counted xs b k → reaching xs a (k + 1) ≡ reaching xs b (k + 1)
-    by-place (inl p) (inl l) r = absurd (omega arith)
-    by-place (inl p) (inr l) (inl r) = absurd (omega arith)
-    by-place (inl p) (inr l) (inr r) = omega arith
-    by-place (inr p) (inl l) (inl r) = omega arith
-    by-place (inr p) (inl l) (inr r) = absurd (omega arith)
-    by-place (inr p) (inr l) r = absurd (omega arith)
-
--- One state more: the end is drawn in to it, if it stands between.
+-- One state more: the end is drawn in to it, if it is between.
 pub drawn-up-on : (xs : List ℕ) (low high k best own next : ℕ) → DrawnUp xs low high k best
     → NotBelow (getD xs k 0) low high own → next ≡ min best own → DrawnUp xs low high (k + 1) next
-drawn-up-on xs low high k best own next so-far place e = record {
-  notBelow = from place;
-  within = omega (arith, so-far .within);
-  same = reached-alike xs next low k still (alike place);
-}
-  where
-    from : NotBelow (getD xs k 0) low high own → low ≤ next
-    from (inl w) = omega (arith, so-far .notBelow)
-    from (inr w) = omega (arith, so-far .notBelow, so-far .within)
-
-    still : reaching xs next k ≡ reaching xs low k
-    still = omega (arith, so-far .same, falls xs low next k (from place), falls xs next best k (omega arith))
-
-    alike : NotBelow (getD xs k 0) low high own → Alike (getD xs k 0) next low
-    alike (inl w) = inr (omega arith, w .0)
-    alike (inr w) = inl (omega (arith, from place), w .0)
+drawn-up-on xs low high k best own next so-far place e =
+    let x = getD xs k 0 in
+    let from : low ≤ next = either-way (leb low x)
+    (λ t. omega (arith, so-far .notBelow, leb-true low x t, place .0 (leb-true low x t)))
+    (λ t. omega (arith, so-far .notBelow, so-far .within, place .1 (leb-false low x t))) in
+    let none : low ≤ x → next ≤ x = λ h. omega (arith, place .0 h) in
+    record {
+      notBelow = from;
+      within = omega (arith, so-far .within);
+      same = still-none-between xs low low next best k (omega arith) from (omega arith) (so-far .same) none;
+    }
 
 pub drawn-down-on : (xs : List ℕ) (low high k best own next : ℕ) → DrawnDown xs low high k best
     → NotAbove (getD xs k 0) high low own → next ≡ max best own → DrawnDown xs low high (k + 1) next
-drawn-down-on xs low high k best own next so-far place e = record {
-  within = omega (arith, so-far .within);
-  notAbove = to place;
-  same = reached-alike xs (next + 1) (high + 1) k still (alike place);
-}
-  where
-    to : NotAbove (getD xs k 0) high low own → next ≤ high
-    to (inl w) = omega (arith, so-far .notAbove)
-    to (inr w) = omega (arith, so-far .notAbove, so-far .within)
-
-    still : reaching xs (next + 1) k ≡ reaching xs (high + 1) k
-    still =
-        omega (
-          arith,
-          so-far .same,
-          falls xs (best + 1) (next + 1) k (omega arith),
-          falls xs (next + 1) (high + 1) k (omega (arith, to place)),
-        )
-
-    alike : NotAbove (getD xs k 0) high low own → Alike (getD xs k 0) (next + 1) (high + 1)
-    alike (inl w) = inl (omega arith, omega arith)
-    alike (inr w) = inr (omega (arith, to place), omega arith)
+drawn-down-on xs low high k best own next so-far place e =
+    let x = getD xs k 0 in
+    let to : next ≤ high = either-way (leb x high)
+    (λ t. omega (arith, so-far .notAbove, leb-true x high t, place .0 (leb-true x high t)))
+    (λ t. omega (arith, so-far .notAbove, so-far .within, place .1 (leb-false x high t))) in
+    let none : next + 1 ≤ x → high + 1 ≤ x = λ h. either-way (leb x high)
+    (λ t. omega (arith, place .0 (leb-true x high t)))
+    (λ t. omega (arith, leb-false x high t)) in
+    record {
+      within = omega (arith, so-far .within);
+      notAbove = to;
+      same = still-none-between xs (best + 1) (next + 1) (high + 1) _ k (omega arith) (omega arith) (omega arith) (so-far .same) none;
+    }
 
 -- ---- ranges that hold the bar
 

@@ -2,7 +2,7 @@
 -- room. The functions that fill and serve cite it.
 -- Assumes nothing.
 use mathlib.Core.Path.{_≡_, refl, sym, ap, _∙_}
-use mathlib.Core.Bool.{Bool, true, false, cond}
+use mathlib.Core.Bool.{true, false, cond}
 use mathlib.Core.List.{List}
 use Prim.Native.Nat.{ℕ, _+_, _-_, _^_, _≤_, _<_, min, max}
 use native.Mathlib.Omega.{arith}
@@ -13,14 +13,16 @@ use Rattle.apportionment.specs.Lists.{sum, listOf}
 use Rattle.apportionment.specs.Remainders.{wholePart, seatsLeft, remainderSeatsAt, remainderSeats}
 use Rattle.apportionment.specs.inner.Lists.{length-listOf, getD-listOf, is-listOf, listOf-agrees, sum-listOf-more}
 use Rattle.apportionment.specs.inner.Filling.{FilledTo}
-use Rattle.problem.specs.inner.Passed.{Passed}
+use Rattle.apportionment.specs.inner.Tests.{either-way}
+use Rattle.apportionment.specs.inner.Problem.{Problem}
 use Rattle.remainders.specs.inner.WholeParts.{wholeParts, whole-parts-within, left-within-states}
-use Rattle.remainders.specs.inner.Standing.{standingAt, standingsOf, extraIn, rank-is, withExtraAt, withExtra}
-use Rattle.remainders.specs.inner.Bar.{all-reach, none-above, Bar, extraBy, spareAt, no-more-to-spare, spareFor, served-by-rank}
-use Rattle.remainders.specs.inner.Search.{Searchable}
+use Rattle.remainders.specs.inner.Precedence.{precedenceAt, precedencesOf, extraIn, rank-is, withExtraAt, withExtra}
+use Rattle.remainders.specs.inner.Bar.{all-reach, none-above, extraBy, spareAt, no-more-to-spare, served-by-rank}
+use Rattle.remainders.specs.inner.Search.{Searchable, BarFound}
 use Rattle.remainders.specs.declared.Parts.{Parts}
+use Rattle.remainders.specs.declared.Range.{Range}
 
--- ---- the whole parts and the standings
+-- ---- the whole parts and the precedences
 
 -- No number of the first k is outside of `least` to `greatest`.
 pub record Spans (f : ℕ → ℕ) (k least greatest : ℕ) : Type 0 where
@@ -37,67 +39,64 @@ spans-none f least greatest = record {
 pub spans-on : (f : ℕ → ℕ) (k least greatest low high own : ℕ) → Spans f k least greatest → own ≡ f k
     → low ≡ min least own → high ≡ max greatest own → Spans f (k + 1) low high
 spans-on f k least greatest low high own so-far e l h = record {
-  low = λ (i : ℕ) (m : i < k + 1). by-low i m (eqb i k) refl;
-  high = λ (i : ℕ) (m : i < k + 1). by-high i m (eqb i k) refl;
+  low = λ (i : ℕ) (m : i < k + 1).
+      either-way (eqb i k)
+      (λ d. rw (eqb-true i k d) (omega arith))
+      (λ d. omega (arith, so-far .low i (omega (arith, eqb-false i k d))));
+  high = λ (i : ℕ) (m : i < k + 1).
+      either-way (eqb i k)
+      (λ d. rw (eqb-true i k d) (omega arith))
+      (λ d. omega (arith, so-far .high i (omega (arith, eqb-false i k d))));
 }
-  where
-    by-low : (i : ℕ) → i < k + 1 → (t : Bool) → eqb i k ≡ t → low ≤ f i
-    by-low i m true d = rw (eqb-true i k d) (omega (arith, e, l))
-    by-low i m false d = omega (arith, l, so-far .low i (omega (arith, eqb-false i k d)))
-
-    by-high : (i : ℕ) → i < k + 1 → (t : Bool) → eqb i k ≡ t → f i ≤ high
-    by-high i m true d = rw (eqb-true i k d) (omega (arith, e, h))
-    by-high i m false d = omega (arith, h, so-far .high i (omega (arith, eqb-false i k d)))
 
 -- The lists after filling, and what it hands back.
-pub record Filled (ps : List ℕ) (H : ℕ) (standings seats : List ℕ) (r : Parts) : Type 0 where
-  pub standingsAre : standings ≡ standingsOf ps H
+pub record Filled (ps : List ℕ) (H : ℕ) (precedences seats : List ℕ) (r : Parts) : Type 0 where
+  pub precedencesAre : precedences ≡ precedencesOf ps H
   pub seatsAre : seats ≡ wholeParts ps H
   pub givenIs : r .given ≡ sum (wholeParts ps H)
-  pub spans : Spans (standingAt ps H) (length ps) (r .least) (r .greatest)
+  pub spans : Spans (precedenceAt ps H) (length ps) (r .least) (r .greatest)
 
 -- Standings and seats of as many states, with room for one more seat each.
 pub record HasRoom (xs seats : List ℕ) : Type 0 where
   pub sameLength : length seats ≡ length xs
   pub seatsFit : (i : ℕ) → i < length xs → getD seats i 0 + 1 < 2 ^ 64
 
-parts-have-room : (ps : List ℕ) (H : ℕ) → Passed ps H → HasRoom (standingsOf ps H) (wholeParts ps H)
-parts-have-room ps H ok = record {
+parts-have-room : {ps : List ℕ} {P H : ℕ} → Problem ps P H → HasRoom (precedencesOf ps H) (wholeParts ps H)
+parts-have-room {ps} {P} {H} ok = record {
   sameLength = length-listOf (wholePart ps H) (length ps) ∙ sym long;
-  seatsFit = λ (i : ℕ) (h : i < length (standingsOf ps H)).
+  seatsFit = λ (i : ℕ) (h : i < length (precedencesOf ps H)).
       rw (getD-listOf (wholePart ps H) (length ps) i (omega (arith, long)))
-      (omega (arith, sum-listOf-more (wholePart ps H) i, whole-parts-within ps H (i + 1) ok, ok .houseWithin));
+      (omega (arith, sum-listOf-more (wholePart ps H) i, whole-parts-within ok (i + 1), ok .houseWithin));
 }
   where
-    long : length (standingsOf ps H) ≡ length ps
-    long = length-listOf (standingAt ps H) (length ps)
+    long : length (precedencesOf ps H) ≡ length ps
+    long = length-listOf (precedenceAt ps H) (length ps)
 
-pub has-room : (ps : List ℕ) (H : ℕ) (xs seats : List ℕ) → Passed ps H
-    → xs ≡ standingsOf ps H → seats ≡ wholeParts ps H → HasRoom xs seats
-has-room ps H xs seats ok e d = rw (e, d) (parts-have-room ps H ok)
+pub has-room : {ps : List ℕ} {P H : ℕ} {xs seats : List ℕ} {r : Parts} → Problem ps P H → Filled ps H xs seats r → HasRoom xs seats
+has-room ok filled = rw (filled .precedencesAre, filled .seatsAre) (parts-have-room ok)
 
-pub is-searchable : (ps : List ℕ) (H : ℕ) (xs seats : List ℕ) (r : Parts) → Passed ps H → Filled ps H xs seats r
+pub is-searchable : {ps : List ℕ} {P H : ℕ} {xs seats : List ℕ} {r : Parts} → Problem ps P H → Filled ps H xs seats r
     → Searchable xs (H - r .given) (r .least) (r .greatest)
 unfolding seatsLeft
-is-searchable ps H xs seats r ok filled = record {
-  some = omega (arith, long, ok .someState);
-  few = omega (arith, long, filled .givenIs, left-within-states ps H ok);
-  ordered = omega (arith, filled .spans .low 0 (ok .someState), filled .spans .high 0 (ok .someState));
+is-searchable {ps} {P} {H} {xs} {seats} {r} ok filled = record {
+  some = omega (arith, long, ok .states .someState);
+  few = omega (arith, long, filled .givenIs, left-within-states ok);
+  ordered = omega (arith, filled .spans .low 0 (ok .states .someState), filled .spans .high 0 (ok .states .someState));
   noneAbove = none-above xs (r .greatest) above (length xs) (omega arith);
   allReach = all-reach xs (r .least) below (length xs) (omega arith);
 }
   where
     long : length xs ≡ length ps
-    long = ap length (filled .standingsAre) ∙ length-listOf (standingAt ps H) (length ps)
+    long = ap length (filled .precedencesAre) ∙ length-listOf (precedenceAt ps H) (length ps)
 
-    stands : (i : ℕ) → i < length xs → getD xs i 0 ≡ standingAt ps H i
-    stands i h = ap (λ (l : List ℕ). getD l i 0) (filled .standingsAre) ∙ getD-listOf (standingAt ps H) (length ps) i (omega (arith, long))
+    own : (i : ℕ) → i < length xs → getD xs i 0 ≡ precedenceAt ps H i
+    own i h = ap (λ (l : List ℕ). getD l i 0) (filled .precedencesAre) ∙ getD-listOf (precedenceAt ps H) (length ps) i (omega (arith, long))
 
     below : (i : ℕ) → i < length xs → r .least ≤ getD xs i 0
-    below i h = rw (stands i h) (filled .spans .low i (omega (arith, long)))
+    below i h = rw (own i h) (filled .spans .low i (omega (arith, long)))
 
     above : (i : ℕ) → i < length xs → getD xs i 0 ≤ r .greatest
-    above i h = rw (stands i h) (filled .spans .high i (omega (arith, long)))
+    above i h = rw (own i h) (filled .spans .high i (omega (arith, long)))
 
 -- ---- serving, and the definition
 
@@ -157,50 +156,53 @@ served-in-parts xs bar spare before place after room s =
     (length before)
     (length-listOf (servedFromAt xs bar place after) (length after) ∙ s .done .long)
     (λ (i : ℕ) (h : i < length before).
-    getD-listOf (servedFromAt xs bar place after) (length after) i (omega (arith, s .done .long)) ∙ by-place i h (ltb i place) refl)
+    getD-listOf (servedFromAt xs bar place after) (length after) i (omega (arith, s .done .long))
+    ∙ either-way (ltb i place) (early i) (late i h))
   where
-    by-place : (i : ℕ) → i < length before → (t : Bool) → ltb i place ≡ t
-        → servedFromAt xs bar place after i ≡ servedAt xs bar spare before i
-    by-place i h true e = rw e (omega (arith, s .done .right i (ltb-true i place e)))
-    by-place i h false e =
+    early : (i : ℕ) → ltb i place ≡ true → servedFromAt xs bar place after i ≡ servedAt xs bar spare before i
+    early i e = rw e (omega (arith, s .done .right i (ltb-true i place e)))
+
+    late : (i : ℕ) → i < length before → ltb i place ≡ false → servedFromAt xs bar place after i ≡ servedAt xs bar spare before i
+    late i h e =
         let later : place ≤ i = ltb-false i place e in
         let none : spareAt xs bar spare i ≡ 0
         = no-more-to-spare xs bar spare place i later (s .none (omega (arith, room .sameLength))) in
         rw (e, none) (omega (arith, s .kept i later))
 
-pub served-is : (xs : List ℕ) (left bar spare : ℕ) (seats : List ℕ) → Bar xs left bar → length seats ≡ length xs
-    → spare ≡ spareFor xs left bar → served xs bar spare seats ≡ withExtra xs left seats
-served-is xs left bar spare seats b same e =
-    listOf-agrees
-    (servedAt xs bar spare seats)
+-- Served by the bar that was found, all have what their rank gives them.
+pub served-by-found-bar : (seats : List ℕ) {xs after : List ℕ} {left : ℕ} {r : Range} → BarFound xs left r → length seats ≡ length xs
+    → after ≡ served xs (r .low) (left - r .above) seats → after ≡ withExtra xs left seats
+served-by-found-bar seats {xs} {after} {left} {r} found same e =
+    e ∙ listOf-agrees
+    (servedAt xs (r .low) (left - r .above) seats)
     (withExtraAt xs left seats)
     (length seats)
-    (λ (i : ℕ) (h : i < length seats). ap (λ (x : ℕ). getD seats i 0 + x) (rw e (served-by-rank xs left bar b i (omega arith))))
+    (λ (i : ℕ) (h : i < length seats).
+    ap (λ (x : ℕ). getD seats i 0 + x) (rw (found .counted) (served-by-rank xs left (r .low) (found .bar) i (omega arith))))
 
 -- At each place, a whole part with the seat beyond it is the definition's number.
 seat-is-allotted : (ps : List ℕ) (H i : ℕ) → i < length ps
-    → withExtraAt (standingsOf ps H) (seatsLeft ps H) (wholeParts ps H) i ≡ remainderSeatsAt ps H i
+    → withExtraAt (precedencesOf ps H) (seatsLeft ps H) (wholeParts ps H) i ≡ remainderSeatsAt ps H i
 unfolding remainderSeatsAt extraIn
 seat-is-allotted ps H i h = rw (getD-listOf (wholePart ps H) (length ps) i h, rank-is ps H i h)
 
-pub parts-are-allotted : (ps : List ℕ) (H : ℕ) → withExtra (standingsOf ps H) (seatsLeft ps H) (wholeParts ps H) ≡ remainderSeats ps H
+pub parts-are-allotted : (ps : List ℕ) (H : ℕ) → withExtra (precedencesOf ps H) (seatsLeft ps H) (wholeParts ps H) ≡ remainderSeats ps H
 unfolding remainderSeats
 parts-are-allotted ps H =
     is-listOf
-    (withExtra (standingsOf ps H) (seatsLeft ps H) (wholeParts ps H))
+    (withExtra (precedencesOf ps H) (seatsLeft ps H) (wholeParts ps H))
     (remainderSeatsAt ps H)
     (length ps)
     (length-listOf each (length (wholeParts ps H)) ∙ long)
     (λ (i : ℕ) (h : i < length ps). getD-listOf each (length (wholeParts ps H)) i (omega (arith, long)) ∙ seat-is-allotted ps H i h)
   where
     each : ℕ → ℕ
-    each = withExtraAt (standingsOf ps H) (seatsLeft ps H) (wholeParts ps H)
+    each = withExtraAt (precedencesOf ps H) (seatsLeft ps H) (wholeParts ps H)
 
     long : length (wholeParts ps H) ≡ length ps
     long = length-listOf (wholePart ps H) (length ps)
 
-pub seats-are-allotted : (ps : List ℕ) (H : ℕ) (xs seats : List ℕ) (given : ℕ)
-    → xs ≡ standingsOf ps H → seats ≡ wholeParts ps H → given ≡ sum (wholeParts ps H)
-    → withExtra xs (H - given) seats ≡ remainderSeats ps H
+pub seats-are-allotted : {ps : List ℕ} {H : ℕ} {xs seats : List ℕ} {r : Parts} → Filled ps H xs seats r
+    → withExtra xs (H - r .given) seats ≡ remainderSeats ps H
 unfolding seatsLeft
-seats-are-allotted ps H xs seats given e d g = rw (e, d, g) (parts-are-allotted ps H)
+seats-are-allotted {ps} {H} filled = rw (filled .precedencesAre, filled .seatsAre, filled .givenIs) (parts-are-allotted ps H)

@@ -2,7 +2,7 @@
 -- Assumes nothing.
 use borrow.Author.Needs.{needs}
 use Rattle.apportionment.specs.Divisor.{claimOf}
-use Rattle.signposts.specs.inner.Claims.{held, claimFor, claim-fits}
+use Rattle.signposts.specs.inner.Claims.{held, claimFor, under-fits}
 use Rattle.signposts.proofs.claim_of.Statement.{statement}
 use Rattle.signposts.proofs.claim_of.Tie as tie
 
@@ -18,7 +18,7 @@ mul-under c =
     let weight-of = c .before .weight-of in
     let signpost-of = c .before .before .signpost-of in
     let start = c .before .before .before in
-    rw (weight-of .ensures, signpost-of .ensures) (claim-fits (start .args .method) (start .pre))
+    rw (weight-of .ensures, signpost-of .ensures) (under-fits (start .args .method) (start .pre))
 
 returns : tie.Need-returns
 unfolding claimFor claimOf held

@@ -12,7 +12,7 @@ use Rattle.apportionment.specs.Divisor.{signpost}
 use Rattle.apportionment.specs.declared.Method.{Method}
 use Rattle.apportionment.specs.declared.Method.the-variants.{Leximin, Adams, Dean, Hill, Webster, Jefferson, Remainders}
 use Rattle.signposts.specs.declared.Claim.{Claim}
-use Rattle.claims.specs.inner.MachineWords.{product-fits}
+use Rattle.apportionment.specs.inner.MachineWords.{product-fits}
 use Rattle.signposts.specs.inner.Claims.{held, seatLimit}
 use Rattle.signposts.proofs.signpost_of.Statement.{statement}
 use Rattle.signposts.proofs.signpost_of.Tie as tie

@@ -11,7 +11,7 @@ use Rattle.apportionment.specs.Limits.{sumLimit}
 use Rattle.apportionment.specs.Divisor.{weightOf}
 use Rattle.apportionment.specs.declared.Method.{Method}
 use Rattle.apportionment.specs.declared.Method.the-variants.{Leximin, Adams, Dean, Hill, Webster, Jefferson, Remainders}
-use Rattle.claims.specs.inner.MachineWords.{product-fits}
+use Rattle.apportionment.specs.inner.MachineWords.{product-fits}
 use Rattle.signposts.proofs.weight_of.Statement.{statement}
 use Rattle.signposts.proofs.weight_of.Tie as tie
 

@@ -12,7 +12,7 @@ use Rattle.apportionment.specs.Quantities.{Fraction}
 use Rattle.apportionment.specs.Divisor.{signpost, weightOf, claimOf}
 use Rattle.apportionment.specs.declared.Method.{Method}
 use Rattle.apportionment.specs.declared.Method.the-variants.{Leximin, Adams, Dean, Hill, Webster, Jefferson, Remainders}
-use Rattle.claims.specs.inner.MachineWords.{product-fits}
+use Rattle.apportionment.specs.inner.MachineWords.{product-fits}
 use Rattle.signposts.specs.declared.Claim.{Claim}
 
 -- ---- claims
@@ -38,21 +38,21 @@ aimLimit = 2 * houseLimit
 abbrev pub seatLimit : ℕ
 seatLimit = aimLimit + 1
 
--- A state whose claim fits.
-pub record Counted (p a : ℕ) : Type 0 where
-  pub people : p ≤ sumLimit
-  pub seats : a ≤ seatLimit
+-- The claim of p people with a seats fits its two words under every method.
+pub record ClaimFits (p a : ℕ) : Type 0 where
+  pub peopleWithin : p ≤ sumLimit
+  pub seatsWithin : a ≤ seatLimit
 
-pub one-less-counted : {p a : ℕ} → Counted p a → Counted p (a - 1)
-one-less-counted k = record { people = k .people; seats = omega (arith, k .seats) }
+pub one-less-fits : {p a : ℕ} → ClaimFits p a → ClaimFits p (a - 1)
+one-less-fits k = record { peopleWithin = k .peopleWithin; seatsWithin = omega (arith, k .seatsWithin) }
 
--- The denominator of a claim: at most the square of the largest sum for Hill, and far less for the others.
-pub claim-fits : (m : Method) {p a : ℕ} → Counted p a → Fits w64 (weightOf m p * signpost m a .under)
+-- Its denominator does: at most the square of the largest sum for Hill, and far less for the others.
+pub under-fits : (m : Method) {p a : ℕ} → ClaimFits p a → Fits w64 (weightOf m p * signpost m a .under)
 unfolding weightOf signpost
-claim-fits Leximin k = product-fits sumLimit 1 (k .people) (le-refl 1) tt
-claim-fits Adams k = product-fits sumLimit 1 (k .people) (le-refl 1) tt
-claim-fits Dean k = product-fits sumLimit (2 * seatLimit + 1) (k .people) (omega arith) tt
-claim-fits Hill k = product-fits (sumLimit * sumLimit) 1 (mul-le-mul (k .people) (k .people)) (le-refl 1) tt
-claim-fits Webster k = product-fits sumLimit 2 (k .people) (le-refl 2) tt
-claim-fits Jefferson k = product-fits sumLimit 1 (k .people) (le-refl 1) tt
-claim-fits Remainders k = product-fits sumLimit 1 (k .people) (le-refl 1) tt
+under-fits Leximin k = product-fits sumLimit 1 (k .peopleWithin) (le-refl 1) tt
+under-fits Adams k = product-fits sumLimit 1 (k .peopleWithin) (le-refl 1) tt
+under-fits Dean k = product-fits sumLimit (2 * seatLimit + 1) (k .peopleWithin) (omega arith) tt
+under-fits Hill k = product-fits (sumLimit * sumLimit) 1 (mul-le-mul (k .peopleWithin) (k .peopleWithin)) (le-refl 1) tt
+under-fits Webster k = product-fits sumLimit 2 (k .peopleWithin) (le-refl 2) tt
+under-fits Jefferson k = product-fits sumLimit 1 (k .peopleWithin) (le-refl 1) tt
+under-fits Remainders k = product-fits sumLimit 1 (k .peopleWithin) (le-refl 1) tt

@@ -12,19 +12,19 @@ use Rattle.claims.specs.inner.Order.{wantsBefore}
 use Rattle.claims.specs.inner.Order.{givesUpBefore}
 use Rattle.claims.specs.inner.StandingOrder.{firstPlace-le}
 use Rattle.claims.specs.inner.DivisorClaims.{methodTest}
-use Rattle.signposts.specs.inner.Claims.{Counted}
+use Rattle.signposts.specs.inner.Claims.{ClaimFits}
 
 -- ---- what is within bounds
 
--- States whose claims fit, one by one.
-pub record AllCounted (ps ss : List ℕ) : Type 0 where
-  pub some : 0 < length ps
+-- Some states, each with a claim that fits.
+pub record ClaimsFit (ps ss : List ℕ) : Type 0 where
+  pub someState : 0 < length ps
   pub sameLength : length ss ≡ length ps
-  pub counted : (i : ℕ) → i < length ps → Counted (getD ps i 0) (getD ss i 0)
+  pub each : (i : ℕ) → i < length ps → ClaimFits (getD ps i 0) (getD ss i 0)
 
--- Two of them.
-pub record Pair (ps ss : List ℕ) (i j : ℕ) : Type 0 where
-  pub all : AllCounted ps ss
+-- So the claims of two of them do.
+pub record BothClaimsFit (ps ss : List ℕ) (i j : ℕ) : Type 0 where
+  pub all : ClaimsFit ps ss
   pub one : i < length ps
   pub other : j < length ps
 
@@ -43,10 +43,10 @@ movesBefore m false ps ss = givesUpBefore noFewest (methodTest m ps) ss
 abbrev pub firstToMove : Method → Bool → (ps ss : List ℕ) → ℕ
 firstToMove m up ps ss = firstPlace (movesBefore m up ps ss) (length ps - 1)
 
-pub first-so-far-lt : (m : Method) (up : Bool) {ps ss : List ℕ} {i best : ℕ} → AllCounted ps ss → i ≤ length ps
+pub first-so-far-lt : (m : Method) (up : Bool) {ps ss : List ℕ} {i best : ℕ} → ClaimsFit ps ss → i ≤ length ps
     → best ≡ firstPlace (movesBefore m up ps ss) (i - 1) → best < length ps
-first-so-far-lt m up {ps} {ss} {i} k h e = omega (arith, e, k .some, firstPlace-le (movesBefore m up ps ss) (i - 1))
+first-so-far-lt m up {ps} {ss} {i} k h e = omega (arith, e, k .someState, firstPlace-le (movesBefore m up ps ss) (i - 1))
 
-pub first-lt : (m : Method) (up : Bool) {ps ss : List ℕ} {i : ℕ} → AllCounted ps ss → i ≡ firstToMove m up ps ss
+pub first-lt : (m : Method) (up : Bool) {ps ss : List ℕ} {i : ℕ} → ClaimsFit ps ss → i ≡ firstToMove m up ps ss
     → (i < length ps) × (i < length ss)
 first-lt m up k e = let within = first-so-far-lt m up k (omega arith) e in (within, omega (arith, within, k .sameLength))

@@ -4,32 +4,32 @@ use borrow.Author.Needs.{needs}
 use native.Mathlib.Nat.{le-add-right, lt-of-le-of-lt}
 use native.Mathlib.Omega.{arith}
 use lib.Dec.{lit<}
-use Rattle.wide.proofs.Digits.{words-are-product, lowest-fits, left-fits, right-fits, high-word-fits}
+use Rattle.wide.proofs.Digits.{half, words-are-product, lowest-fits, left-fits, right-fits, high-word-fits}
 use Rattle.wide.proofs.product.Statement.{statement}
 use Rattle.wide.proofs.product.Tie as tie
 
 -- The two words are the product ..
 returns : tie.Need-returns
-returns c = words-are-product 4294967296 (c .args .a) (c .args .b)
+returns c = words-are-product half (c .args .a) (c .args .b)
 
 -- .. and no step on the way passes a word.
 mul-low : tie.Need-mul-low
-mul-low c = record { fits = lowest-fits 4294967296 (c .args .a) (c .args .b) (lit< tt) (omega arith) (omega arith) }
+mul-low c = record { fits = lowest-fits half (c .args .a) (c .args .b) (lit< tt) (omega arith) (omega arith) }
 
 add-left : tie.Need-add-left
-add-left c = record { fits = left-fits 4294967296 (c .args .a) (c .args .b) (lit< tt) (omega arith) (omega arith) }
+add-left c = record { fits = left-fits half (c .args .a) (c .args .b) (lit< tt) (omega arith) (omega arith) }
 
 mul-left : tie.Need-mul-left
 mul-left c = record { fits = lt-of-le-of-lt (le-add-right _ _) (add-left c .fits) }
 
 add-right : tie.Need-add-right
-add-right c = record { fits = right-fits 4294967296 (c .args .a) (c .args .b) (lit< tt) (omega arith) (omega arith) }
+add-right c = record { fits = right-fits half (c .args .a) (c .args .b) (lit< tt) (omega arith) (omega arith) }
 
 mul-right : tie.Need-mul-right
 mul-right c = record { fits = lt-of-le-of-lt (le-add-right _ _) (add-right c .fits) }
 
 add-t14 : tie.Need-add-t14
-add-t14 c = record { fits = high-word-fits 4294967296 (c .args .a) (c .args .b) (lit< tt) (omega arith) (omega arith) }
+add-t14 c = record { fits = high-word-fits half (c .args .a) (c .args .b) (lit< tt) (omega arith) (omega arith) }
 
 add-t12 : tie.Need-add-t12
 add-t12 c = record { fits = lt-of-le-of-lt (le-add-right _ _) (add-t14 c .fits) }

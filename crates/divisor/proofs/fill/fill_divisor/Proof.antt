@@ -1,6 +1,5 @@
 -- `divisor::fill::fill_divisor` is right because rounded seats stand, and moves lead from them to the method's allotment.
 -- Assumes nothing.
-use mathlib.Core.Path.{_∙_}
 use mathlib.Core.Bool.{true, false, false≢true}
 use native.Mathlib.Omega.{arith}
 use borrow.Author.Needs.{needs}
@@ -29,7 +28,7 @@ returns c =
     let test = made .before .before in
     let near = test .before .before .before in
     let start = near .before .before .before .before in
-    made .make-moves .ensures ∙ withdrawn-is-divisor (start .pre) (near .fill-near .ensures) (test .if1 .taken)
+    withdrawn-is-divisor (start .pre) (near .fill-near .ensures) (test .if1 .taken) (made .make-moves .ensures)
 
 make-moves-requires-2 : tie.Need-make-moves-requires-2
 make-moves-requires-2 c κs =
@@ -47,7 +46,7 @@ returns-2 c =
     let test = made .before .before in
     let near = test .before .before .before in
     let start = near .before .before .before .before in
-    made .make-moves2 .ensures ∙ placed-is-divisor (start .pre) (near .fill-near .ensures) (test .if1 .left)
+    placed-is-divisor (start .pre) (near .fill-near .ensures) (test .if1 .left) (made .make-moves2 .ensures)
 
 pub fill-divisor-spec : {M : Type 1} → statement M
 fill-divisor-spec =

@@ -2,7 +2,7 @@
 -- Assumes nothing.
 use native.Mathlib.Omega.{arith}
 use borrow.Author.Needs.{needs}
-use Rattle.divisor.specs.inner.Rounding.{states-kept}
+use Rattle.divisor.specs.inner.Rounding.{filled-length}
 use Rattle.divisor.proofs.fill.fill_near.Statement.{statement}
 use Rattle.divisor.proofs.fill.fill_near.Tie as tie
 
@@ -23,15 +23,16 @@ returns c =
     let aimed = c .before .before in
     let first = aimed .before .before .before in
     let start = first .before .before .before .before in
-    record { aim = start .args .house; aimFits = omega (arith, start .pre .houseFits); filled = first .fill-rounded .ensures }
+    record { aim = start .args .house; aimFits = omega (arith, start .pre .problem .houseWithin); filled = first .fill-rounded .ensures }
 
 fill-rounded-requires-2 : tie.Need-fill-rounded-requires-2
 fill-rounded-requires-2 c κs =
     let aimed = c .before .before .before in
     let first = aimed .before .before .before in
     let start = first .before .before .before .before in (
-      states-kept (start .pre .states) (first .fill-rounded .ensures),
-      omega (arith, start .pre .houseFits, aimed .aim-of .ensures),
+      start .pre .problem .states,
+      filled-length (first .fill-rounded .ensures),
+      omega (arith, start .pre .problem .houseWithin, aimed .aim-of .ensures),
     )
 
 same-length-2 : tie.Need-same-length-2
@@ -45,7 +46,7 @@ returns-2 c =
     let start = first .before .before .before .before in
     record {
       aim = aimed .aim-of .result;
-      aimFits = omega (arith, start .pre .houseFits, aimed .aim-of .ensures);
+      aimFits = omega (arith, start .pre .problem .houseWithin, aimed .aim-of .ensures);
       filled = second .fill-rounded2 .ensures;
     }
 

@@ -29,13 +29,13 @@ slice-aggregate-play : tie.Need-slice-aggregate-play
 slice-aggregate-play c =
     let test = c .before .before in
     let start = test .before .before .before .before in
-    sym (length-take-le _ _ (omega (arith, start .pre .few)))
+    sym (length-take-le _ _ (omega (arith, start .pre .states .statesWithin)))
 
 play-requires : tie.Need-play-requires
 play-requires c κs =
     let test = c .before .before in
     let start = test .before .before .before .before in
-    (start .pre, length-take-le _ _ (omega (arith, start .pre .few)))
+    (start .pre, length-take-le _ _ (omega (arith, start .pre .states .statesWithin)))
 
 same-length-2 : tie.Need-same-length-2
 same-length-2 c = search needs

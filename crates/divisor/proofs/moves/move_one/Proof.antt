@@ -18,7 +18,7 @@ slice-read-moved c = root-within (c .before .before .before .before .before .pre
 moved-requires : tie.Need-moved-requires
 moved-requires c κs =
     let start = c .before .before .before .before .before in
-    omega (arith, start .pre .all .counted _ (root-lt (start .pre)) .seats)
+    omega (arith, start .pre .all .each _ (root-lt (start .pre)) .seatsWithin)
 
 mul-seats : tie.Need-mul-seats
 mul-seats c =

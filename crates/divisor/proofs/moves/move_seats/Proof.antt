@@ -3,7 +3,7 @@
 use mathlib.Core.Path.{_≡_, sym, _∙_}
 use Prim.Native.Nat.{_-_, _≤_}
 use native.Mathlib.Omega.{arith}
-use Rattle.divisor.specs.inner.Moves.{Moving, moved-counted, moving-none, moving-turn, moving-more}
+use Rattle.divisor.specs.inner.Moves.{Moving, moved-fits, moving-none, moving-turn, moving-more}
 use Rattle.divisor.proofs.moves.move_seats.Statement.{statement}
 use Rattle.divisor.proofs.moves.move_seats.Tie as tie
 
@@ -52,7 +52,7 @@ same-length : tie.Need-same-length Inv-loop μ-loop
 same-length c =
     let turn = c .before in
     let start = turn .before .before .before .before in
-    let all = moved-counted _ (start .pre .0) (turn .loop .done) (turn .loop .inv .0) (turn .loop .inv .1 .seats) in
+    let all = moved-fits _ (start .pre .0) (turn .loop .done) (turn .loop .inv .0) (turn .loop .inv .1 .seats) in
     all .sameLength ∙ sym (start .pre .0 .all .sameLength)
 
 same-length-2 : tie.Need-same-length-2 Inv-loop μ-loop

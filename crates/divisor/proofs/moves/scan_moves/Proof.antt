@@ -4,7 +4,7 @@ use mathlib.Core.Path.{_≡_, sym, _∙_}
 use Prim.Native.Nat.{_-_, _≤_}
 use native.Mathlib.Omega.{arith}
 use borrow.Author.Needs.{needs}
-use Rattle.divisor.specs.inner.Moves.{movedSeats, moved-none, moved-more, moved-counted}
+use Rattle.divisor.specs.inner.Moves.{movedSeats, moved-none, moved-more, moved-fits}
 use Rattle.divisor.proofs.moves.scan_moves.Statement.{statement}
 use Rattle.divisor.proofs.moves.scan_moves.Tie as tie
 
@@ -21,7 +21,7 @@ scan-one-requires : tie.Need-scan-one-requires Inv-loop μ-loop
 scan-one-requires c κs =
     let turn = c .before .before in
     let start = turn .before .before .before in
-    moved-counted _ (start .pre) (turn .loop .done) (turn .loop .inv .0) (turn .loop .inv .1)
+    moved-fits _ (start .pre) (turn .loop .done) (turn .loop .inv .0) (turn .loop .inv .1)
 
 add-done : tie.Need-add-done Inv-loop μ-loop
 add-done c = search needs
@@ -33,13 +33,13 @@ loop-again : tie.Need-loop-again Inv-loop μ-loop
 loop-again c =
     let made = c .before .before in
     let turn = made .before .before .before .loop in
-    (omega arith, made .scan-one .ensures ∙ moved-more _ _ _ _ (turn .done) (turn .inv .1))
+    (omega arith, moved-more _ _ _ _ (turn .done) (turn .inv .1) (made .scan-one .ensures))
 
 same-length : tie.Need-same-length Inv-loop μ-loop
 same-length c =
     let turn = c .before in
     let start = turn .before .before .before in
-    let all = moved-counted _ (start .pre) (turn .loop .done) (turn .loop .inv .0) (turn .loop .inv .1) in
+    let all = moved-fits _ (start .pre) (turn .loop .done) (turn .loop .inv .0) (turn .loop .inv .1) in
     all .sameLength ∙ sym (start .pre .all .sameLength)
 
 returns : tie.Need-returns Inv-loop μ-loop

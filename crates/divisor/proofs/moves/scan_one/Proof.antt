@@ -25,7 +25,7 @@ moved-requires : tie.Need-moved-requires
 moved-requires c κs =
     let found = c .before in
     let start = found .before .before .before .before in
-    omega (arith, start .pre .counted _ (first-lt _ _ (start .pre) (found .first-to-move .ensures) .0) .seats)
+    omega (arith, start .pre .each _ (first-lt _ _ (start .pre) (found .first-to-move .ensures) .0) .seatsWithin)
 
 mul-seats : tie.Need-mul-seats
 mul-seats c =

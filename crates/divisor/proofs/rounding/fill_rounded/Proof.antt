@@ -4,18 +4,20 @@ use Prim.Native.Nat.{_-_}
 use native.Mathlib.Omega.{arith}
 use lib.ListN.{length}
 use borrow.Author.Needs.{needs}
-use Rattle.divisor.specs.inner.Rounding.{Filling, each-rounds, own-at-most, filling-none, filling-more, filling-done}
+use Rattle.divisor.specs.inner.Rounding.{Filling, each-share-fits, own-at-most, filling-none, filling-more, filling-done}
 use Rattle.divisor.proofs.rounding.fill_rounded.Statement.{statement}
 use Rattle.divisor.proofs.rounding.fill_rounded.Tie as tie
 
 abbrev Inv-loop : tie.InvT-loop
-Inv-loop method populations total aim seats₀ given₀ i₀ seats given i = Filling method total aim populations seats₀ i seats given
+Inv-loop method populations total aim seats₀ given₀ i₀ seats given i = Filling method total aim populations i seats given
 
 abbrev μ-loop : tie.MeasureT-loop
 μ-loop method populations total aim seats₀ given₀ i₀ seats given i = length populations - i
 
 loop-holds : tie.Need-loop-holds Inv-loop μ-loop
-loop-holds c = filling-none (c .before .before .args .method) (c .before .before .pre .0) (c .before .before .pre .1)
+loop-holds c =
+    let start = c .before .before in
+    filling-none (start .args .method) (start .pre .0) (start .pre .2) _ (start .pre .1)
 
 mul-rounded-of : tie.Need-mul-rounded-of Inv-loop μ-loop
 mul-rounded-of c = search needs
@@ -27,7 +29,7 @@ rounded-of-requires : tie.Need-rounded-of-requires Inv-loop μ-loop
 rounded-of-requires c κs =
     let start = c .before .before .before .before .before in
     let turn = c .before .before .loop in
-    each-rounds (start .pre .0) (start .pre .1) (turn .i)
+    each-share-fits (start .pre .0) (start .pre .2) (turn .i)
 
 mul-seats : tie.Need-mul-seats Inv-loop μ-loop
 mul-seats c = search needs
@@ -40,9 +42,9 @@ add-given c =
     let past = c .before .before .before .before .before in
     let start = past .before in
     let turn = c .before .before .before .loop in
-    let own = own-at-most (start .args .method) (start .pre .0) (start .pre .1) (turn .i) (c .rounded-of .result)
+    let own = own-at-most (start .args .method) (start .pre .0) (start .pre .2) (turn .i) (c .rounded-of .result)
     (c .rounded-of .ensures) in
-    omega (arith, own, turn .inv .small, start .pre .0 .few)
+    omega (arith, own, turn .inv .small, start .pre .0 .statesWithin)
 
 add-i : tie.Need-add-i Inv-loop μ-loop
 add-i c = search needs
@@ -56,8 +58,7 @@ loop-again c =
     let start = past .before in
     let turn = c .before .before .before .loop in
     let loop-test = c .before .before .loop-test in
-    filling-more (start .args .method) (start .pre .0) (start .pre .1) (c .rounded-of .result) (turn .inv)
-    (loop-test .taken) (c .rounded-of .ensures)
+    filling-more (start .args .method) (start .pre .0) (start .pre .2) (turn .inv) (loop-test .taken) (c .rounded-of .ensures)
 
 same-length : tie.Need-same-length Inv-loop μ-loop
 same-length c = search needs
@@ -66,7 +67,7 @@ returns : tie.Need-returns Inv-loop μ-loop
 returns c =
     let start = c .before .before .before .before in
     let turn = c .before .loop in
-    filling-done (start .args .method) (start .pre .0) (start .pre .1) (turn .inv) (omega (arith, turn .inv .within))
+    filling-done (start .args .method) (start .pre .0) (start .pre .2) (turn .inv) (c .loop-test .left)
 
 pub fill-rounded-spec : {M : Type 1} → statement M
 fill-rounded-spec =

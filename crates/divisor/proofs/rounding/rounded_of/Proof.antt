@@ -6,14 +6,14 @@ use native.Mathlib.Nat.{le-trans}
 use borrow.Author.Needs.{needs}
 use Rattle.apportionment.specs.Limits.{sumLimit}
 use Rattle.claims.specs.inner.DivisorClaims.{rounded}
-use Rattle.claims.specs.inner.MachineWords.{product-fits}
+use Rattle.apportionment.specs.inner.MachineWords.{product-fits}
 use Rattle.signposts.specs.inner.Claims.{aimLimit}
-use Rattle.divisor.specs.inner.Rounding.{whole-at-most, whole-counted, average-test}
+use Rattle.divisor.specs.inner.Rounding.{whole-at-most, whole-claim-fits, average-test}
 use Rattle.divisor.proofs.rounding.rounded_of.Statement.{statement}
 use Rattle.divisor.proofs.rounding.rounded_of.Tie as tie
 
 mul-whole : tie.Need-mul-whole
-mul-whole c = product-fits sumLimit aimLimit (le-trans (c .pre .people) (c .pre .sumFits)) (c .pre .aimFits) tt
+mul-whole c = product-fits sumLimit aimLimit (le-trans (c .pre .oneOfAll) (c .pre .sumWithin)) (c .pre .aimWithin) tt
 
 div-whole : tie.Need-div-whole
 div-whole c = search needs
@@ -25,7 +25,7 @@ weight-of-requires-2 : tie.Need-weight-of-requires-2
 weight-of-requires-2 c κs = search needs
 
 claim-of-requires : tie.Need-claim-of-requires
-claim-of-requires c κs = whole-counted (c .before .before .pre)
+claim-of-requires c κs = whole-claim-fits (c .before .before .pre)
 
 claim-less-requires : tie.Need-claim-less-requires
 claim-less-requires c κs = search needs
@@ -43,7 +43,7 @@ returns c =
 add-result : tie.Need-add-result
 add-result c =
     let start = c .before .before .before .before .before in
-    omega (arith, whole-at-most (start .pre), start .pre .aimFits)
+    omega (arith, whole-at-most (start .pre), start .pre .aimWithin)
 
 returns-2 : tie.Need-returns-2
 unfolding rounded

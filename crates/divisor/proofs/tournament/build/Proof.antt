@@ -16,12 +16,12 @@ abbrev μ-loop : tie.MeasureT-loop
 μ-loop method up populations seats tree₀ k₀ tree k = k
 
 sub-k : tie.Need-sub-k Inv-loop μ-loop
-sub-k c = omega (arith, c .before .before .before .pre .0 .some)
+sub-k c = omega (arith, c .before .before .before .pre .0 .someState)
 
 loop-holds : tie.Need-loop-holds Inv-loop μ-loop
 loop-holds c =
     let start = c .before .before .before in
-    (omega (arith, start .pre .0 .some), building-none (start .pre .1))
+    (omega (arith, start .pre .0 .someState), building-none (start .pre .1))
 
 decide-requires : tie.Need-decide-requires Inv-loop μ-loop
 decide-requires c κs =

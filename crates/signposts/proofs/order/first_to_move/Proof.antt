@@ -20,7 +20,7 @@ abbrev μ-loop : tie.MeasureT-loop
 
 loop-holds : tie.Need-loop-holds Inv-loop μ-loop
 unfolding firstPlace
-loop-holds c = (omega arith, omega (arith, c .before .before .pre .some), refl)
+loop-holds c = (omega arith, omega (arith, c .before .before .pre .someState), refl)
 
 better-of-requires : tie.Need-better-of-requires Inv-loop μ-loop
 better-of-requires c κs =
@@ -37,11 +37,13 @@ loop-less c = search needs
 
 loop-again : tie.Need-loop-again Inv-loop μ-loop
 loop-again c =
-    let turn = c .before .before .loop in
-    let test = c .before .loop-test in (
+    let at-turn = c .before .before in
+    let start = at-turn .before .before .before in
+    let turn = at-turn .loop in
+    let before = movesBefore (start .args .method) (start .args .up) (start .args .populations .now) (start .args .seats .now) in (
       omega arith,
-      omega (arith, test .taken),
-      rw (c .better-of .ensures, turn .inv .2) (scan-next _ (turn .i) (turn .inv .0)),
+      omega (arith, c .before .loop-test .taken),
+      rw (c .better-of .ensures, turn .inv .2) (scan-next before (turn .i) (turn .inv .0)),
     )
 
 returns : tie.Need-returns Inv-loop μ-loop

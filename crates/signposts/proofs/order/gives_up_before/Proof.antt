@@ -7,7 +7,7 @@ use borrow.Author.Needs.{needs}
 use Rattle.apportionment.specs.Quantities.{less}
 use Rattle.claims.specs.inner.Order.{givesUpBefore}
 use Rattle.claims.specs.inner.DivisorClaims.{divisorTest}
-use Rattle.signposts.specs.inner.Claims.{one-less-counted, claimFor, held}
+use Rattle.signposts.specs.inner.Claims.{one-less-fits, claimFor, held}
 use Rattle.signposts.proofs.order.gives_up_before.Statement.{statement}
 use Rattle.signposts.proofs.order.gives_up_before.Tie as tie
 
@@ -52,7 +52,7 @@ claim-of-requires c κs =
     let second = c .before in
     let first = second .before .before in
     let start = first .before .before .before .before in
-    one-less-counted (start .pre .all .counted (start .args .i) (start .pre .one))
+    one-less-fits (start .pre .all .each (start .args .i) (start .pre .one))
 
 mul-claim-of-2 : tie.Need-mul-claim-of-2
 mul-claim-of-2 c = search needs
@@ -68,7 +68,7 @@ claim-of-requires-2 c κs =
     let second = c .before .before .before in
     let first = second .before .before in
     let start = first .before .before .before .before in
-    one-less-counted (start .pre .all .counted (start .args .j) (start .pre .other))
+    one-less-fits (start .pre .all .each (start .args .j) (start .pre .other))
 
 claim-less-requires : tie.Need-claim-less-requires
 claim-less-requires c κs = search needs

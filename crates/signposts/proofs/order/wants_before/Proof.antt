@@ -24,7 +24,7 @@ shared-slice-read-claim-of-2 c = search needs
 claim-of-requires : tie.Need-claim-of-requires
 claim-of-requires c κs =
     let start = c .before .before .before .before in
-    start .pre .all .counted (start .args .i) (start .pre .one)
+    start .pre .all .each (start .args .i) (start .pre .one)
 
 mul-claim-of-3 : tie.Need-mul-claim-of-3
 mul-claim-of-3 c = search needs
@@ -42,7 +42,7 @@ claim-of-requires-2 : tie.Need-claim-of-requires-2
 claim-of-requires-2 c κs =
     let own = c .before .before .before in
     let start = own .before .before .before .before in
-    start .pre .all .counted (start .args .j) (start .pre .other)
+    start .pre .all .each (start .args .j) (start .pre .other)
 
 claim-less-requires : tie.Need-claim-less-requires
 claim-less-requires c κs = search needs
