@@ -11,12 +11,12 @@ ghost use lib.ListN.{length};
 ghost use Rattle.apportionment.specs.Limits.{houseLimit};
 ghost use Rattle.claims.specs.inner.Order.{placed, withdrawn};
 ghost use Rattle.claims.specs.inner.SizeClaims.{sizeTest, oneEach};
-ghost use Rattle.leximin.specs.inner.Scan.{Workable, Seated};
+ghost use Rattle.leximin.specs.inner.Scan.{Bounded, Seated};
 ghost use Rattle.leximin.specs.inner.Moves.{movedOnce, movedTimes, movedBy, Movable};
 
 // The first claim not met is met.
 pub fn place(populations: &[u64], seats: &mut [u64], total: u64, house: u64)
-    requires { ⌜ Workable (now populations) (now seats) total house ⌝ }
+    requires { ⌜ Bounded (now populations) total house (now seats) ⌝ }
     ensures { λ _. ⌜ now (seats .exit) ≡ placed (sizeTest (now (populations .entry)) house) (length (now (populations .entry)))
         (now (seats .entry)) ⌝ }
 {
@@ -26,7 +26,7 @@ pub fn place(populations: &[u64], seats: &mut [u64], total: u64, house: u64)
 
 // The last claim met is given up.
 pub fn withdraw(populations: &[u64], seats: &mut [u64], total: u64, house: u64)
-    requires { ⌜ Seated (now populations) (now seats) total house ⌝ }
+    requires { ⌜ Seated (now populations) total house (now seats) ⌝ }
     ensures { λ _. ⌜ now (seats .exit) ≡ withdrawn oneEach (sizeTest (now (populations .entry)) house)
         (length (now (populations .entry))) (now (seats .entry)) ⌝ }
 {
@@ -36,7 +36,7 @@ pub fn withdraw(populations: &[u64], seats: &mut [u64], total: u64, house: u64)
 
 // One seat moved: placed where `up` is true, and withdrawn otherwise.
 fn move_once(up: bool, populations: &[u64], seats: &mut [u64], total: u64, house: u64)
-    requires { ⌜ Seated (now populations) (now seats) total house ⌝ }
+    requires { ⌜ Seated (now populations) total house (now seats) ⌝ }
     ensures { λ _. ⌜ now (seats .exit) ≡ movedOnce up (now (populations .entry)) house (now (seats .entry)) ⌝ }
 {
     if up {

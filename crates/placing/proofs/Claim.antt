@@ -23,10 +23,9 @@ use Rattle.claims.specs.inner.LeximinSteps.{states-at-most-passed}
 use Rattle.claims.specs.inner.LeastOfAll.{LeastOfAll, leximin-least-of-all}
 use Rattle.apportionment.specs.Allotment.{openRefusal}
 use Rattle.problem.specs.inner.Passed.{open-passed}
-use Rattle.leximin.specs.inner.Start.{ready-sound}
+use Rattle.claims.specs.inner.SizeClaims.{problem-positive}
 use Rattle.placing.specs.Placing.{padded, placingAt, started, openedOf, steppedOf, refusedWith}
 use Rattle.placing.specs.inner.Lists.{take-padded}
-use Rattle.placing.specs.inner.Telling.{opened-ready}
 use Rattle.placing.specs.inner.Walk.{start-is-first, step-before-house, step-at-house}
 use Rattle.placing.specs.declared.Placing.{Placing}
 use Rattle.placing.specs.declared.Placed.{Placed}
@@ -187,7 +186,7 @@ led-claimed ps H opens {rs} {p} led =
       house = ap (λ (q : Placing). q .house) is;
       moves = λ i h l. led .moves i h (rw (zero-add i) l);
       stands = λ i h l. led .stands i h (rw (zero-add i) l);
-      near = gap-below-states (ready-sound (opened-ready (open-passed ps H opens)));
+      near = gap-below-states (problem-positive (open-passed ps H opens .problem));
     }
 
 -- Demand 3: an opening that was not refused handed back r, and calls of stepping in a row from there handed back rs.
@@ -212,7 +211,7 @@ standing-least-of-all {ps} {H} {r} opened rs calls =
     let p = standing (r .placing) rs in
     let claimed = demand opened rs calls in
     let o = open-passed ps H (not-refused opened .0) in
-    let sound = ready-sound (opened-ready o) in
+    let positive = problem-positive (o .problem) in
     let few : p .steps ≤ gap ps H = omega (arith, claimed .steps) in
-    let least = leximin-least-of-all sound (p .total) (rw (claimed .total) (states-at-most-passed sound (o .seatForEach) (p .steps) few)) in
+    let least = leximin-least-of-all positive (p .total) (rw (claimed .total) (states-at-most-passed positive (o .seatForEach) (p .steps) few)) in
     rw (claimed .states, claimed .seats, ← least .allotted .states, take-padded) least

@@ -17,7 +17,7 @@ use Rattle.apportionment.specs.Leximin.{startSeats, startTotal, gap, totalAfter
 use Rattle.claims.specs.inner.Order.{Standing, placed, placedTimes, withdrawn, withdrawnTimes, endsApart}
 use Rattle.claims.specs.inner.Standing.{placedTimes-standing, sum-placedTimes, withdrawnTimes-standing, sum-withdrawnTimes}
 use Rattle.claims.specs.inner.Standing.{ends-standing, standing-ends}
-use Rattle.claims.specs.inner.SizeClaims.{sizeTest, oneEach, Sound}
+use Rattle.claims.specs.inner.SizeClaims.{sizeTest, oneEach, Positive}
 use Rattle.claims.specs.inner.SizeOrder.{size-order}
 use Rattle.claims.specs.inner.Optimal.{standing-leximin}
 use Rattle.claims.specs.inner.StartSeats.{start-standing}
@@ -74,7 +74,7 @@ total-at-gap ps H = by-direction (ltb (startTotal ps H) H) refl
 
 -- ---- the seats after each step
 
-module _ {ps : List ℕ} {H : ℕ} (s : Sound ps H) (fits : length ps ≤ H) where
+module _ {ps : List ℕ} {H : ℕ} (s : Positive ps H) (fits : length ps ≤ H) where
   -- The seats above one each are enough to withdraw m.
   enough : (m : ℕ) → m ≤ gap ps H → ltb (startTotal ps H) H ≡ false → sum (listOf oneEach (length ps)) + m ≤ sum (startSeats ps H)
   unfolding gap distance startTotal

@@ -13,7 +13,7 @@ use lib.Dec.{ltb}
 use borrow.Author.Tests.{lt-ltb, ltb-true, ltb-false}
 use Rattle.apportionment.specs.Quantities.{less, distance, sizeOf}
 use Rattle.claims.specs.inner.Fractions.{less-asymmetric}
-use Rattle.claims.specs.inner.SizeClaims.{moveBefore, sizeBefore}
+use Rattle.claims.specs.inner.SizeClaims.{sizedClaimBefore, sizeBefore}
 use Rattle.claims.specs.inner.StartNearest.{nearer, Nearest, nearest-below, nearest-above}
 use Rattle.claims.specs.inner.SizeShape.{le-or-lt, size-falls, size-rises}
 
@@ -130,7 +130,7 @@ fallsBefore P H p a q b =
 
 module _ {P H : ℕ} (z : 0 < P) (w : 0 < H) (p a q b : ℕ) where
   pub climbs-by-quotient : Climbs p P H a → Climbs q P H b → sizeBefore P H p a q b ≡ climbsBefore P H p a q b
-  unfolding sizeBefore moveBefore climbsBefore risesBefore
+  unfolding sizeBefore sizedClaimBefore climbsBefore risesBefore
   climbs-by-quotient c d =
       simp (
         c .stays,
@@ -141,7 +141,7 @@ module _ {P H : ℕ} (z : 0 < P) (w : 0 < H) (p a q b : ℕ) where
       )
 
   pub falls-by-quotient : Falls p P H a → Falls q P H b → sizeBefore P H p a q b ≡ fallsBefore P H p a q b
-  unfolding sizeBefore moveBefore fallsBefore
+  unfolding sizeBefore sizedClaimBefore fallsBefore
   falls-by-quotient c d =
       simp (
         c .nears,

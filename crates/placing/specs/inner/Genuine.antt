@@ -3,7 +3,7 @@
 -- Assumes nothing.
 use mathlib.Core.Path.{_≡_, refl, sym, _∙_}
 use mathlib.Core.Bool.{Bool, true, false, false≢true, _&&_}
-use mathlib.Core.Logic.{_⊎_, inl, inr}
+use mathlib.Core.Logic.{⊎-elim}
 use mathlib.Core.List.{List, [], _∷_}
 use Prim.Native.Nat.{ℕ, zero, suc, zero-le, suc-le-suc, _+_, _-_, _<_, _≤_}
 use native.Mathlib.Omega.{arith}
@@ -14,18 +14,19 @@ use lib.ListN.{length, getD, List·getD-eq-default}
 use Rattle.apportionment.specs.Limits.{houseLimit, sumLimit}
 use Rattle.apportionment.specs.Lists.{sum}
 use Rattle.apportionment.specs.inner.Lists.{entry-at-most-sum}
+use Rattle.apportionment.specs.inner.Problem.{Problem, Fillable}
 use Rattle.apportionment.specs.Checks.{within}
 use Rattle.apportionment.specs.inner.Checks.{within-limits, within-true}
 use Rattle.apportionment.specs.Quantities.{distance}
 use Rattle.apportionment.specs.Leximin.{leximinFor, startSeats, startTotal, gap, totalAfter}
 use Rattle.claims.specs.inner.Order.{Standing, endsApart}
-use Rattle.claims.specs.inner.SizeClaims.{sizeTest, oneEach}
+use Rattle.claims.specs.inner.SizeClaims.{Positive, problem-positive, sizeTest, oneEach}
 use Rattle.claims.specs.inner.DivisorSeats.{withdrawn-at-most}
 use Rattle.claims.specs.inner.LeximinSteps.{lexMoved, moved-leximin, moved-standing, moved-total, leximin-ends-apart, ends-apart-leximin}
 use Rattle.claims.specs.inner.SizeShape.{le-or-lt}
 use Rattle.problem.specs.inner.Total.{cappedTotal, total-is-sum, total-past-limit}
 use Rattle.leximin.specs.inner.Scan.{Seated}
-use Rattle.leximin.specs.inner.Start.{Ready, ready-counts, ready-sound, start-within-house, start-total-fits}
+use Rattle.leximin.specs.inner.Start.{start-within-house, start-total-fits}
 use Rattle.placing.specs.inner.Lists.{eachWithin}
 
 pub and-both : (a b : Bool) → a && b ≡ true → (a ≡ true) × (b ≡ true)
@@ -85,22 +86,17 @@ all-within limit (x ∷ xs) all =
     let here : (1 ≤ x) × (x ≤ limit) = all 0 (suc-le-suc zero-le) in
     rw (within-true limit x here) (all-within limit xs (λ i h. all (suc i) (suc-le-suc h)))
 
-pub seats-seated : {ps xs : List ℕ} {P H : ℕ} → Ready ps P H → length xs ≡ length ps → eachWithin H xs ≡ true → Seated ps xs P H
-seats-seated {ps} {xs} {P} {H} r same e =
+pub seats-seated : {ps xs : List ℕ} {P H : ℕ} → Fillable ps P H xs → eachWithin H xs ≡ true → Seated ps P H xs
+seats-seated {ps} {xs} {P} {H} f e =
     record {
-      workable =
-          record {
-            counts = ready-counts r;
-            someState = r .problem .someState;
-            states = same;
-            seatsFit = λ i. by-place i (le-or-lt (length xs) i);
-          };
-      least = λ i h. each-within-at H xs e i (rw same h) .0;
+      bounded = record { fillable = f; seatsWithin = at-most };
+      least = λ i h. each-within-at H xs e i (rw (f .sameLength) h) .0;
     }
   where
-    by-place : (i : ℕ) → (length xs ≤ i) ⊎ (i < length xs) → getD xs i 0 ≤ houseLimit
-    by-place i (inl h) = rw (List·getD-eq-default xs 0 {n = i} h) (omega arith)
-    by-place i (inr h) = le-trans (each-within-at H xs e i h .1) (r .problem .houseWithin)
+    at-most : (i : ℕ) → getD xs i 0 ≤ houseLimit
+    at-most i =
+        ⊎-elim (λ h. rw (List·getD-eq-default xs 0 {n = i} h) (omega arith))
+        (λ h. le-trans (each-within-at H xs e i h .1) (f .problem .houseWithin)) (le-or-lt (length xs) i)
 
 -- Seats that agree are within the house.
 pub agreed-within : (ps xs : List ℕ) (H total : ℕ) → seatsAgree ps xs H total ≡ true → eachWithin H xs ≡ true
@@ -111,18 +107,21 @@ agreed-within ps xs H total e =
 
 -- ---- the leximin allotment passes the tests of seats
 
-module _ {ps : List ℕ} {P H : ℕ} (r : Ready ps P H) (fits : length ps ≤ H) (m : ℕ) (few : m ≤ gap ps H) where
+module _ {ps : List ℕ} {P H : ℕ} (problem : Problem ps P H) (fits : length ps ≤ H) (m : ℕ) (few : m ≤ gap ps H) where
   abbrev lex : List ℕ
   lex = leximinFor ps H (totalAfter ps H m)
 
+  positive : Positive ps H
+  positive = problem-positive problem
+
   moved : lexMoved ps H m ≡ lex
-  moved = moved-leximin (ready-sound r) fits m few
+  moved = moved-leximin positive fits m few
 
   lex-standing : Standing (length ps) oneEach (sizeTest ps H) lex
-  lex-standing = rw moved at (moved-standing (ready-sound r) fits m few)
+  lex-standing = rw moved at (moved-standing positive fits m few)
 
   lex-total : sum lex ≡ totalAfter ps H m
-  lex-total = rw moved at (moved-total (ready-sound r) fits m few)
+  lex-total = rw moved at (moved-total positive fits m few)
 
   pub lex-states : length (leximinFor ps H (totalAfter ps H m)) ≡ length ps
   lex-states = lex-standing .states
@@ -139,7 +138,7 @@ module _ {ps : List ℕ} {P H : ℕ} (r : Ready ps P H) (fits : length ps ≤ H)
           le-trans (entry-at-most-sum lex i) (rw lex-total ends)
       by-direction false e =
           rw (← moved, e)
-          (le-trans (withdrawn-at-most oneEach (sizeTest ps H) (length ps) (startSeats ps H) m i) (start-within-house r i))
+          (le-trans (withdrawn-at-most oneEach (sizeTest ps H) (length ps) (startSeats ps H) m i) (start-within-house problem i))
 
   -- The total after some steps is far below the limit of sums.
   total-fits : totalAfter ps H m ≤ sumLimit
@@ -147,8 +146,8 @@ module _ {ps : List ℕ} {P H : ℕ} (r : Ready ps P H) (fits : length ps ≤ H)
   total-fits = by-direction (ltb (startTotal ps H) H) refl
     where
       by-direction : (t : Bool) → ltb (startTotal ps H) H ≡ t → totalAfter ps H m ≤ sumLimit
-      by-direction true e = rw e (omega (arith, ltb-true (startTotal ps H) H e, few, r .problem .houseWithin))
-      by-direction false e = rw e (omega (arith, start-total-fits r))
+      by-direction true e = rw e (omega (arith, ltb-true (startTotal ps H) H e, few, problem .houseWithin))
+      by-direction false e = rw e (omega (arith, start-total-fits problem))
 
   pub lex-agrees : seatsAgree ps lex H (totalAfter ps H m) ≡ true
   unfolding seatsAgree
@@ -157,22 +156,20 @@ module _ {ps : List ℕ} {P H : ℕ} (r : Ready ps P H) (fits : length ps ≤ H)
         total-is-sum lex (rw lex-total total-fits),
         eq-eqb _ _ lex-total,
         all-within H lex (λ i h. (lex-standing .least i (rw (lex-standing .states) at h), lex-within-house i)),
-        leximin-ends-apart (ready-sound r) fits m lex few refl,
+        leximin-ends-apart positive fits m lex few refl,
       )
 
 -- Seats that pass the tests for the total after m steps are the leximin allotment for it.
-pub agreed-seats : {ps xs : List ℕ} {P H total : ℕ} → Ready ps P H → length ps ≤ H → (m : ℕ) → m ≤ gap ps H → length xs ≡ length ps
+pub agreed-seats : {ps xs : List ℕ} {P H total : ℕ} → Problem ps P H → length ps ≤ H → (m : ℕ) → m ≤ gap ps H → length xs ≡ length ps
     → total ≡ totalAfter ps H m → seatsAgree ps xs H total ≡ true → xs ≡ leximinFor ps H (totalAfter ps H m)
 unfolding seatsAgree
-agreed-seats {ps} {xs} {P} {H} {total} r fits m few same whole e =
+agreed-seats {ps} {xs} {P} {H} {total} problem fits m few same whole e =
     let both = and-both (eqb (cappedTotal xs) total && eachWithin H xs) _ e in
     let first = and-both (eqb (cappedTotal xs) total) _ (both .0) in
-    ends-apart-leximin (ready-sound r) fits m xs same (λ i h. each-within-at H xs (first .1) i (rw same h) .0)
+    ends-apart-leximin (problem-positive problem) fits m xs same (λ i h. each-within-at H xs (first .1) i (rw same h) .0)
     (capped-sum xs (eqb-true _ _ (first .0)) ∙ whole) (both .1)
   where
     capped-sum : (ys : List ℕ) → cappedTotal ys ≡ total → sum ys ≡ total
-    capped-sum ys c = by-limit (le-or-lt (sum ys) sumLimit)
-      where
-        by-limit : (sum ys ≤ sumLimit) ⊎ (sumLimit < sum ys) → sum ys ≡ total
-        by-limit (inl h) = sym (total-is-sum ys h) ∙ c
-        by-limit (inr h) = omega (arith, total-past-limit ys h, c, whole, total-fits r fits m few)
+    capped-sum ys c =
+        ⊎-elim (λ h. sym (total-is-sum ys h) ∙ c)
+        (λ h. omega (arith, total-past-limit ys h, c, whole, total-fits problem fits m few)) (le-or-lt (sum ys) sumLimit)

@@ -10,7 +10,7 @@ use native.Mathlib.Nat.{sub-zero, zero-sub, suc-sub-suc}
 use lib.Dec.{eqb}
 use lib.ListN.{length, getD, take, drop, replicate, take-append-drop, length-drop, length-replicate, length-append, drop-of-length-le}
 use lib.Seq.{drop-cons, length-take-le, take-append-seam, drop-append-seam}
-use borrow.Author.Tests.{eqb-true, eqb-false, eq-eqb, ne-eqb}
+use borrow.Author.Tests.{eqb-true}
 use Rattle.apportionment.specs.Limits.{stateLimit}
 use Rattle.apportionment.specs.Checks.{within}
 use Rattle.placing.specs.Placing.{padded}

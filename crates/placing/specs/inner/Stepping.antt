@@ -14,15 +14,15 @@ use Rattle.apportionment.specs.Limits.{stateLimit}
 use Rattle.apportionment.specs.Quantities.{distance}
 use Rattle.apportionment.specs.Leximin.{leximinFor, startTotal, gap, totalAfter}
 use Rattle.claims.specs.inner.Order.{placed, withdrawn}
-use Rattle.claims.specs.inner.SizeClaims.{sizeTest, oneEach}
+use Rattle.claims.specs.inner.SizeClaims.{Positive, problem-positive, sizeTest, oneEach}
 use Rattle.claims.specs.inner.StartBounds.{gap-below-states}
 use Rattle.claims.specs.inner.LeximinSteps.{lexStep, step-leximin}
-use Rattle.problem.specs.inner.Passed.{OpenPassed, open-passed}
+use Rattle.problem.specs.inner.Passed.{Openable, open-passed}
 use Rattle.leximin.specs.inner.Scan.{Seated}
-use Rattle.leximin.specs.inner.Start.{Ready, ready-sound}
+use Rattle.apportionment.specs.inner.Problem.{Problem}
 use Rattle.placing.specs.Placing.{padded, placingAt, peopleOf}
 use Rattle.placing.specs.inner.Genuine.{seats-seated, agreed-within, lex-states}
-use Rattle.placing.specs.inner.Telling.{Genuine, genuine-passes, opened-ready, record-equal}
+use Rattle.placing.specs.inner.Telling.{Genuine, genuine-passes, record-equal}
 use Rattle.placing.specs.declared.Placing.{Placing}
 
 module _ (p : Placing) (g : Genuine p) where
@@ -32,8 +32,11 @@ module _ (p : Placing) (g : Genuine p) where
   abbrev lex : ℕ → List ℕ
   lex m = leximinFor ps (p .house) (totalAfter ps (p .house) m)
 
-  opened : OpenPassed ps (p .house)
+  opened : Openable ps (p .house)
   opened = open-passed ps (p .house) (g .opens)
+
+  positive : Positive ps (p .house)
+  positive = problem-positive (opened .problem)
 
   -- ---- what a genuine placing holds
 
@@ -57,7 +60,7 @@ module _ (p : Placing) (g : Genuine p) where
   own-total = ap (λ (q : Placing). q .total) (g .is)
 
   lex-long : (m : ℕ) → m ≤ gap ps (p .house) → length (lex m) ≡ p .states
-  lex-long m h = lex-states (opened-ready opened) (opened .seatForEach) m h ∙ sym own-states
+  lex-long m h = lex-states (opened .problem) (opened .seatForEach) m h ∙ sym own-states
 
   first-seats : take (p .states) (p .seats) ≡ lex (p .steps)
   unfolding padded
@@ -74,12 +77,16 @@ module _ (p : Placing) (g : Genuine p) where
 
   -- The steps made are few.
   pub steps-fit : p .steps ≤ stateLimit
-  steps-fit = omega (arith, g .few, gap-below-states (ready-sound (opened-ready opened)), opened .problem .statesWithin)
+  steps-fit = omega (arith, g .few, gap-below-states positive, opened .problem .states .statesWithin)
 
   -- The seats can be worked on.
-  pub seats-ready : {P : ℕ} → Ready (peopleOf p) P (p .house) → Seated (peopleOf p) (take (p .states) (p .seats)) P (p .house)
-  seats-ready r =
-      seats-seated r (ap length first-seats ∙ lex-states (opened-ready opened) (opened .seatForEach) (p .steps) (g .few))
+  pub own-seated : {P : ℕ} → Problem (peopleOf p) P (p .house) → Seated (peopleOf p) P (p .house) (take (p .states) (p .seats))
+  own-seated problem =
+      seats-seated
+      (record {
+        problem = problem;
+        sameLength = ap length first-seats ∙ lex-states problem (opened .seatForEach) (p .steps) (g .few);
+      })
       (agreed-within (peopleOf p) (take (p .states) (p .seats)) (p .house) (p .total) (genuine-passes p g .seats))
 
   -- ---- the step
@@ -102,7 +109,7 @@ module _ (p : Placing) (g : Genuine p) where
     unfolding padded
     next-seats {ys} e =
         let next : ys ≡ lex (p .steps + 1) =
-        e ∙ ap (lexStep ps (p .house)) first-seats ∙ step-leximin (ready-sound (opened-ready opened)) (opened .seatForEach) (p .steps) steps-left
+        e ∙ ap (lexStep ps (p .house)) first-seats ∙ step-leximin positive (opened .seatForEach) (p .steps) steps-left
         ∙ ap lex (sym (add-one (p .steps))) in
         ap (λ (l : List ℕ). l ++ drop (p .states) (p .seats)) next
         ∙ ap (λ (l : List ℕ). lex (p .steps + 1) ++ l)

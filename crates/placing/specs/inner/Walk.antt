@@ -18,11 +18,11 @@ use Rattle.apportionment.specs.Allotment.{seatsOf, stepsOf}
 use Rattle.apportionment.specs.declared.Method.the-variants.{Leximin}
 use Rattle.claims.specs.inner.LeximinSteps.{no-step-made, moved-leximin, total-at-gap}
 use Rattle.apportionment.specs.Allotment.{openRefusal}
-use Rattle.problem.specs.inner.Passed.{OpenPassed, open-passed}
-use Rattle.leximin.specs.inner.Start.{ready-sound}
+use Rattle.problem.specs.inner.Passed.{Openable, open-passed}
+use Rattle.claims.specs.inner.SizeClaims.{problem-positive}
 use Rattle.placing.specs.Placing.{padded, started, placingAt, peopleOf, refusedWith, steppedOf}
 use Rattle.placing.specs.inner.Lists.{take-padded}
-use Rattle.placing.specs.inner.Telling.{Genuine, facts-genuine, opened-ready, record-equal}
+use Rattle.placing.specs.inner.Telling.{Genuine, facts-genuine, record-equal}
 use Rattle.placing.specs.declared.Placing.{Placing}
 
 -- A placing's own populations are those that it was opened with.
@@ -31,7 +31,7 @@ unfolding placingAt peopleOf
 own-people ps H m = take-padded ps
 
 module _ (ps : List ℕ) (H : ℕ) (opens : openRefusal ps H ≡ accepted) where
-  opened : OpenPassed ps H
+  opened : Openable ps H
   opened = open-passed ps H opens
 
   -- With no step made the total is the start's.
@@ -48,7 +48,7 @@ module _ (ps : List ℕ) (H : ℕ) (opens : openRefusal ps H ≡ accepted) where
   unfolding started placingAt
   start-is-first =
       record-equal refl refl refl
-      (ap padded (sym (no-step-made ps H) ∙ moved-leximin (ready-sound (opened-ready opened)) (opened .seatForEach) 0 (omega arith)))
+      (ap padded (sym (no-step-made ps H) ∙ moved-leximin (problem-positive (opened .problem)) (opened .seatForEach) 0 (omega arith)))
       (sym no-step-total) refl
 
   -- ---- one step

@@ -10,10 +10,10 @@ use Rattle.sizes.proofs.size_of.Statement.{statement}
 use Rattle.sizes.proofs.size_of.Tie as tie
 
 mul-distance-of : tie.Need-mul-distance-of
-mul-distance-of c = product-fits sumLimit houseLimit (le-trans (c .pre .people) (c .pre .sumFits)) (c .pre .houseFits) tt
+mul-distance-of c = product-fits sumLimit houseLimit (le-trans (c .pre .state .people) (c .pre .state .sumWithin)) (c .pre .state .houseWithin) tt
 
 mul-distance-of-2 : tie.Need-mul-distance-of-2
-mul-distance-of-2 c = product-fits (houseLimit + 1) sumLimit (c .pre .seatsFit) (c .pre .sumFits) tt
+mul-distance-of-2 c = product-fits (houseLimit + 1) sumLimit (c .pre .seatsWithin) (c .pre .state .sumWithin) tt
 
 distance-of-requires : tie.Need-distance-of-requires
 distance-of-requires c κs = search needs

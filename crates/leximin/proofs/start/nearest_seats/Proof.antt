@@ -8,13 +8,13 @@ use borrow.Author.Tests.{eq-eqb, ne-eqb}
 use Rattle.apportionment.specs.Limits.{houseLimit, sumLimit}
 use Rattle.claims.specs.inner.SizeClaims.{nearestRounded}
 use Rattle.claims.specs.inner.MachineWords.{product-fits}
-use Rattle.sizes.specs.inner.Sizes.{whole-at-most-house, measured, size-order-kept}
+use Rattle.sizes.specs.inner.Sizes.{whole-at-most-house, size-order-kept}
 use borrow.Author.Needs.{needs}
 use Rattle.leximin.proofs.start.nearest_seats.Statement.{statement}
 use Rattle.leximin.proofs.start.nearest_seats.Tie as tie
 
 mul-whole : tie.Need-mul-whole
-mul-whole c = product-fits sumLimit houseLimit (le-trans (c .pre .people) (c .pre .sumFits)) (c .pre .houseFits) tt
+mul-whole c = product-fits sumLimit houseLimit (le-trans (c .pre .people) (c .pre .sumWithin)) (c .pre .houseWithin) tt
 
 div-whole : tie.Need-div-whole
 div-whole c = search needs
@@ -24,15 +24,16 @@ unfolding nearestRounded
 returns c = simp (eq-eqb _ _ (c .if1 .taken))
 
 add-size-of : tie.Need-add-size-of
-add-size-of c = omega (arith, whole-at-most-house (c .before .pre), c .before .pre .houseFits)
+add-size-of c = omega (arith, whole-at-most-house (c .before .pre), c .before .pre .houseWithin)
 
 size-of-requires : tie.Need-size-of-requires
-size-of-requires c κs = measured (c .before .pre) (omega (arith, whole-at-most-house (c .before .pre), c .before .pre .houseFits))
+size-of-requires c κs =
+    record { state = c .before .pre; seatsWithin = omega (arith, whole-at-most-house (c .before .pre), c .before .pre .houseWithin) }
 
 size-of-requires-2 : tie.Need-size-of-requires-2
 size-of-requires-2 c κs =
-    measured (c .before .before .pre)
-    (omega (arith, whole-at-most-house (c .before .before .pre), c .before .before .pre .houseFits))
+    let start = c .before .before in
+    record { state = start .pre; seatsWithin = omega (arith, whole-at-most-house (start .pre), start .pre .houseWithin) }
 
 size-less-requires : tie.Need-size-less-requires
 size-less-requires c κs = (c .before .size-of .ensures .small, c .size-of2 .ensures .small)
@@ -40,7 +41,7 @@ size-less-requires c κs = (c .before .size-of .ensures .small, c .size-of2 .ens
 add-result : tie.Need-add-result
 add-result c =
     let start = c .before .before .before .before .before in
-    omega (arith, whole-at-most-house (start .pre), start .pre .houseFits)
+    omega (arith, whole-at-most-house (start .pre), start .pre .houseWithin)
 
 returns-2 : tie.Need-returns-2
 unfolding nearestRounded

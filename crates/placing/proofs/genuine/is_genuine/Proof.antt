@@ -9,7 +9,7 @@ use lib.ListN.{length}
 use lib.Seq.{length-take-le}
 use Rattle.apportionment.specs.Limits.{stateLimit}
 use Rattle.placing.specs.Placing.{genuine, peopleOf}
-use Rattle.placing.specs.inner.Telling.{not-genuine, opened-parts}
+use Rattle.placing.specs.inner.Telling.{not-genuine, opened-problem}
 use borrow.Author.Needs.{needs}
 use Rattle.placing.proofs.genuine.is_genuine.Statement.{statement}
 use Rattle.placing.proofs.genuine.is_genuine.Tie as tie
@@ -68,7 +68,7 @@ slice-aggregate-steps-agree c =
 
 steps-agree-requires : tie.Need-steps-agree-requires
 steps-agree-requires c κs =
-    opened-parts
+    opened-problem
     (sym (c .before .before .before .before .open-refusal .ensures) ∙ c .before .before .before .if2 .left)
     (c .before .total-of .ensures)
 
@@ -106,10 +106,11 @@ seats-agree-requires c κs =
     let at-if2 = at-total-of .before .before in
     let at-open-refusal = at-if2 .before in
     let at-if1 = at-open-refusal .before .before in
-    let start = at-if1 .before .before .before in (
-      opened-parts (sym (at-open-refusal .open-refusal .ensures) ∙ at-if2 .if2 .left) (at-total-of .total-of .ensures),
-      same-first _ _ _ (full-seats start) (full-people start) (at-if1 .if1 .left),
-    )
+    let start = at-if1 .before .before .before in
+    record {
+      problem = opened-problem (sym (at-open-refusal .open-refusal .ensures) ∙ at-if2 .if2 .left) (at-total-of .total-of .ensures);
+      sameLength = same-first _ _ _ (full-seats start) (full-people start) (at-if1 .if1 .left);
+    }
 
 slice-aggregate-zeros-from : tie.Need-slice-aggregate-zeros-from
 slice-aggregate-zeros-from c = search needs

@@ -56,7 +56,7 @@ returns-3 c =
       falls-compared (start .pre .0) (start .pre .1),
       le-ltb _ _ (at-if1 .if1 .left),
       le-ltb _ _ (at-if2 .if2 .left),
-      c .size-less .ensures ∙ sizes-compared (start .pre .0 .0 .peopled) (at-size-of .size-of .ensures) (c .before .size-of2 .ensures),
+      c .size-less .ensures ∙ sizes-compared (start .pre .0 .0 .state .peopled) (at-size-of .size-of .ensures) (c .before .size-of2 .ensures),
     )
 
 pub falls-before-spec : {M : Type 1} → statement M

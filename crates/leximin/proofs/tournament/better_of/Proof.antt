@@ -1,11 +1,11 @@
--- `leximin::tournament::better` meets its contract: the tests that were made pick the case of the definition.
+-- `leximin::tournament::better_of` meets its contract: the tests that were made pick the case of the definition.
 -- Assumes nothing.
 use mathlib.Core.Path.{sym, _∙_}
 use borrow.Author.Tests.{lt-ltb, le-ltb}
 use Rattle.claims.specs.inner.Tournament.{better}
 use borrow.Author.Needs.{needs}
-use Rattle.leximin.proofs.tournament.better.Statement.{statement}
-use Rattle.leximin.proofs.tournament.better.Tie as tie
+use Rattle.leximin.proofs.tournament.better_of.Statement.{statement}
+use Rattle.leximin.proofs.tournament.better_of.Tie as tie
 
 wide-requires : tie.Need-wide-requires
 wide-requires c κs = search needs
@@ -55,8 +55,8 @@ returns-4 c =
     let tested = rw (at-wide .wide .ensures, at-wide2 .wide2 .ensures) at (c .before .moves-before2 .ensures) in
     simp (le-ltb _ _ (at-if1 .if1 .left), sym tested ∙ c .if3 .left)
 
-pub better-spec : {M : Type 1} → statement M
-better-spec =
+pub better-of-spec : {M : Type 1} → statement M
+better-of-spec =
     tie.close
     (tie.spec
     wide-requires
