@@ -110,11 +110,14 @@ fn move_by_tournament(
 // The places of a tournament among as many states as a register may have.
 const PLACES: usize = 2 * STATE_LIMIT;
 
-// Scans are cheaper than a tournament for one seat, for two among up to 32 states, for three among up to 16, and so on.
+// Making a tournament costs as much as looking at so many states (measured): a scan for each seat is cheaper for one seat, for two among
+// up to 32 states, for three among up to 16, and so on.
+const MAKING: usize = 32;
+
 fn scans_pay(states: usize, times: u64) -> bool
     requires { ⌜ 0 < states ⌝ }
 {
-    times < (2 + 32 / states) as u64
+    times <= (1 + MAKING / states) as u64
 }
 
 // Places so many seats where `up` is true, and withdraws so many otherwise.

@@ -47,15 +47,15 @@ pub fn fill_leximin(populations: &[u64], total: u64, house: u64, seats: &mut [u6
     start - house
 }
 
-// The claim m of state i comes before the claim k of state j; of equal claims, the earlier state's.
-fn comes_before(m: Claim, i: usize, k: Claim, j: usize) -> bool
-    requires { ⌜ SmallClaim m × SmallClaim k ⌝ }
-    ensures { λ r. ⌜ r ≡ cond (lessClaim m k) true (cond (lessClaim k m) false (ltb i j)) ⌝ }
+// The own claim, of state i, comes before the other, of state j; of equal claims, the earlier state's.
+fn comes_before(own: Claim, i: usize, other: Claim, j: usize) -> bool
+    requires { ⌜ SmallClaim own × SmallClaim other ⌝ }
+    ensures { λ r. ⌜ r ≡ cond (lessClaim own other) true (cond (lessClaim other own) false (ltb i j)) ⌝ }
 {
-    if claim_less(m, k) {
+    if claim_less(own, other) {
         return true;
     }
-    if claim_less(k, m) {
+    if claim_less(other, own) {
         return false;
     }
     i < j

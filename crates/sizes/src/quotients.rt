@@ -7,7 +7,7 @@ ghost use Rattle.apportionment.specs.Quantities.{less, sizeOf};
 ghost use Rattle.claims.specs.inner.SizeClaims.{sizeBefore};
 ghost use Rattle.claims.specs.inner.SizeQuotients.{risesBefore};
 ghost use Rattle.sizes.specs.inner.Sizes.{WithSeats};
-ghost use Rattle.sizes.specs.inner.Quotients.{Climbing, Falling};
+ghost use Rattle.sizes.specs.inner.Quotients.{ClimbingClaim, FallingClaim};
 
 // The state's size rises with one seat more.
 fn rises(population: u64, seats: u64, total: u64, house: u64) -> bool
@@ -39,7 +39,7 @@ fn rises_before(p: u64, a: u64, q: u64, b: u64, total: u64, house: u64) -> bool
 
 // Of two claims at or above the start, that of population p with a seats comes before that of q with b: level claims come first.
 pub fn climbs_before(p: u64, a: u64, q: u64, b: u64, total: u64, house: u64) -> bool
-    requires { ⌜ Climbing p a total house × Climbing q b total house ⌝ }
+    requires { ⌜ ClimbingClaim p a total house × ClimbingClaim q b total house ⌝ }
     ensures { λ r. ⌜ r ≡ sizeBefore total house p a q b ⌝ }
 {
     let other = rises(q, b, total, house);
@@ -54,7 +54,7 @@ pub fn climbs_before(p: u64, a: u64, q: u64, b: u64, total: u64, house: u64) -> 
 
 // Of two claims below the start, that of population p with a seats comes before that of q with b.
 pub fn falls_before(p: u64, a: u64, q: u64, b: u64, total: u64, house: u64) -> bool
-    requires { ⌜ Falling p a total house × Falling q b total house ⌝ }
+    requires { ⌜ FallingClaim p a total house × FallingClaim q b total house ⌝ }
     ensures { λ r. ⌜ r ≡ sizeBefore total house p a q b ⌝ }
 {
     let own = p * b;

@@ -18,7 +18,7 @@ use Rattle.apportionment.specs.Leximin.{sizesOf, sizeList, listLess, moreAtFirs
 use Rattle.claims.specs.inner.Order.{Standing}
 use Rattle.claims.specs.inner.SizeClaims.{Positive, oneEach, sizeTest, sizeBefore}
 use Rattle.claims.specs.inner.SizeOrder.{people, size-order}
-use Rattle.apportionment.specs.inner.Tests.{cond-both}
+use Rattle.apportionment.specs.inner.Tests.{cond-both, either-way}
 use Rattle.claims.specs.inner.Every.{Every, every-implied}
 use Rattle.claims.specs.inner.Weights.{Over, factorial, factorial-pos, size-over, Weighing, coarser, weight, powers-weigh, total}
 use Rattle.claims.specs.inner.Weights.{sorted-order, claim-order-by-weight}
@@ -41,11 +41,7 @@ more-asymmetric (x ∷ xs) (y ∷ ys) e = by-test (ltb y x) (ltb x y) refl refl 
     by-test false false es et rest h = rest h
 
 more-irreflexive : (xs : List ℕ) → moreAtFirst xs xs ≡ false
-more-irreflexive xs = by-test (moreAtFirst xs xs) refl
-  where
-    by-test : (t : Bool) → moreAtFirst xs xs ≡ t → moreAtFirst xs xs ≡ false
-    by-test true e = more-asymmetric xs xs e
-    by-test false e = e
+more-irreflexive xs = either-way (moreAtFirst xs xs) (more-asymmetric xs xs) (λ e. e)
 
 -- ---- the sizes of an allotment
 
@@ -72,8 +68,9 @@ module _ (P H : ℕ) where
 
 -- ---- sizes weighed
 
--- How many times a size outweighs a smaller one: more than there are states, so that one larger size outweighs a smaller one of every state
--- (`sorted-order`), and 3 at least, so that claims are in the order of what they add (`claim-order-by-weight`). n + 3 is both, whatever n is.
+-- How many times a size outweighs a smaller one: more than there are states, so that one larger size outweighs a smaller one of every
+-- state (`sorted-order`), and 3 at least, so that claims are in the order of what they add (`claim-order-by-weight`). n + 3 is both,
+-- whatever n is.
 abbrev base : List ℕ → ℕ
 base ps = length ps + 3
 
@@ -120,7 +117,10 @@ module _ (ps : List ℕ) (H most : ℕ) (positive : Positive ps H) where
     lists-by-weight ys zs hy hz =
         let ly = length-sizes (sum ps) H ps ys (hy .states) in
         let lz = length-sizes (sum ps) H ps zs (hz .states) in
-        rw (← total-sizes (sum ps) H (sizeWeight ps most) ps ys (hy .states), ← total-sizes (sum ps) H (sizeWeight ps most) ps zs (hz .states))
+        rw (
+          ← total-sizes (sum ps) H (sizeWeight ps most) ps ys (hy .states),
+          ← total-sizes (sum ps) H (sizeWeight ps most) ps zs (hz .states),
+        )
         (sorted-order (base ps) (Over C) (sizeWeight ps most) weighing (omega arith)
         (sizesOf (sum ps) H ps ys) (sizesOf (sum ps) H ps zs)
         (ly ∙ sym lz) (omega arith) (sizes-over ys hy) (sizes-over zs hz))
@@ -153,7 +153,8 @@ module _ (ps : List ℕ) (H : ℕ) (positive : Positive ps H) (xs : List ℕ) (s
 
     -- No other has a list less than theirs.
     pub never-less : listLess (sizeList ps H ys) (sizeList ps H xs) ≡ false
-    never-less = lists-by-weight ps H most positive (sum xs) (omega arith) ys xs other own-allotment ∙ le-ltb (cost ys) (cost xs) weighs-least
+    never-less =
+        lists-by-weight ps H most positive (sum xs) (omega arith) ys xs other own-allotment ∙ le-ltb (cost ys) (cost xs) weighs-least
 
     -- No other is chosen before them.
     not-chosen : chosenBefore ps H ys xs ≡ false

@@ -9,6 +9,7 @@ use native.Mathlib.Nat.{le-step, lt-of-lt-of-le}
 use lib.ListN.{length, getD}
 use Rattle.apportionment.specs.Lists.{sum}
 use Rattle.apportionment.specs.inner.Lists.{entry-at-most-sum}
+use Rattle.apportionment.specs.inner.Tests.{either-way}
 use Rattle.apportionment.specs.Quantities.{Fraction, less, sizeOf}
 use Rattle.claims.specs.inner.Order.{ClaimOrder}
 use Rattle.claims.specs.inner.Fractions.{less-asymmetric, not-less-through}
@@ -58,7 +59,8 @@ unfolding by-classes
 by-classes-ordered =
     classed-ordered (λ (x : SizedClaim). less (x .new) (x .old))
     (thenBy-ordered larger-old-ordered smaller-new-ordered)
-    (classed-ordered (λ (x : SizedClaim). not (less (x .old) (x .new))) none-ordered (thenBy-ordered smaller-new-ordered larger-old-ordered))
+    (classed-ordered (λ (x : SizedClaim). not (less (x .old) (x .new))) none-ordered
+    (thenBy-ordered smaller-new-ordered larger-old-ordered))
 
 -- The two ways to write the test agree: by the classes of rising claims, r and r′.
 classes-agree : (c c′ r r′ g t : Bool)
@@ -71,14 +73,16 @@ classes-agree c c′ false false g t = refl
 
 before-by-classes : (x y : SizedClaim) → before x y ≡ by-classes x y
 unfolding before sizedClaimBefore by-classes thenBy
-before-by-classes x y = classes-agree (less (x .new) (x .old)) (less (y .new) (y .old)) (less (x .old) (x .new)) (less (y .old) (y .new)) _ _
+before-by-classes x y =
+    classes-agree (less (x .new) (x .old)) (less (y .new) (y .old)) (less (x .old) (x .new)) (less (y .old) (y .new)) _ _
 
 -- The test of two claims by their sizes orders them by value.
 pub claims-ordered : Ordered before
 claims-ordered =
     record {
       asym = λ x y e. rw before-by-classes (by-classes-ordered .asym x y (rw before-by-classes at e));
-      through = λ x y z e f. rw before-by-classes (by-classes-ordered .through x y z (rw before-by-classes at e) (rw before-by-classes at f));
+      through = λ x y z e f.
+          rw before-by-classes (by-classes-ordered .through x y z (rw before-by-classes at e) (rw before-by-classes at f));
     }
 
 -- ---- leximin's claims
@@ -87,21 +91,17 @@ claims-ordered =
 pub people : {ps : List ℕ} {H : ℕ} → Positive ps H → 0 < sum ps
 people {ps} s = lt-of-lt-of-le (s .peopled 0 (s .someState)) (entry-at-most-sum ps 0)
 
-either-way : (t : Bool) → cond t true true ≡ true
-either-way true = refl
-either-way false = refl
-
 falling-in-turn : (s t u : Fraction) → less t s ≡ true → sizedClaimBefore s t t u ≡ true
 unfolding sizedClaimBefore
-falling-in-turn s t u e = rw e (either-way (less u t))
+falling-in-turn s t u e = either-way (less u t) (λ f. rw (e, f)) (λ f. rw (e, f))
 
 rising-in-turn : (s t u : Fraction) → less t u ≡ true → sizedClaimBefore s t t u ≡ true
 unfolding sizedClaimBefore
-rising-in-turn s t u e = by-first (less t s) refl
-  where
-    by-first : (f : Bool) → less t s ≡ f → sizedClaimBefore s t t u ≡ true
-    by-first true h = falling-in-turn s t u h
-    by-first false h = rw (h, less-asymmetric t u e, e) (either-way (less s t))
+rising-in-turn s t u e =
+    either-way (less t s) (falling-in-turn s t u)
+    (λ h.
+    let stays = less-asymmetric t u e in
+    either-way (less s t) (λ f. rw (h, stays, f, e)) (λ f. rw (h, stays, f, e)))
 
 -- A state's claims come in turn.
 pub claims-in-turn : (p P H a : ℕ) → 0 < p → 0 < P → 0 < H → sizeBefore P H p a p (suc a) ≡ true

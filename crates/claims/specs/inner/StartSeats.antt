@@ -22,7 +22,7 @@ use Rattle.claims.specs.inner.StartNearest.{nearer, Nearest, nearest-law
 -- ---- one state with x seats, its nearest
 
 module _ (p P H x : ℕ) (y : 0 < p) (z : 0 < P) (w : 0 < H) (n : Nearest p P H x) where
-  claims-met-fall : (a : ℕ) → 1 ≤ a → a < x → nearer p P H (suc a) a ≡ true
+  pub claims-met-fall : (a : ℕ) → 1 ≤ a → a < x → nearer p P H (suc a) a ≡ true
   claims-met-fall a h k = ⊎-elim last earlier (eq-or-lt-of-le k)
     where
       last : suc a ≡ x → nearer p P H (suc a) a ≡ true
@@ -34,7 +34,7 @@ module _ (p P H x : ℕ) (y : 0 < p) (z : 0 < P) (w : 0 < H) (n : Nearest p P H 
           (λ q. cc (n .least (suc a) (suc-le-suc zero-le), size-rises p P H (suc a) x y z w (le-of-lt q) l))
           (le-or-lt (suc a * P) (p * H))
 
-  others-do-not-fall : (b : ℕ) → x ≤ b → nearer p P H (suc b) b ≡ false
+  pub others-do-not-fall : (b : ℕ) → x ≤ b → nearer p P H (suc b) b ≡ false
   others-do-not-fall b k = ⊎-elim next later (eq-or-lt-of-le k)
     where
       next : x ≡ b → nearer p P H (suc b) b ≡ false

@@ -171,11 +171,13 @@ module _ {up : Bool} {ps xs₀ xs t : List ℕ} {P H times done : ℕ}
 
 -- The state that moves is one of the states.
 pub unmet-inside : {ps xs : List ℕ} {P H r : ℕ} → Bounded ps P H xs → r ≡ firstUnmet (sizeTest ps H) (length ps) xs → r < length xs
-unmet-inside {ps} {xs} {P} {H} w e = rw (e, w .fillable .sameLength) (firstUnmet-lt (length ps) (sizeTest ps H) xs (w .fillable .problem .states .someState))
+unmet-inside {ps} {xs} {P} {H} b e =
+    rw (e, b .fillable .sameLength) (firstUnmet-lt (length ps) (sizeTest ps H) xs (b .fillable .problem .states .someState))
 
 pub met-inside : {ps xs : List ℕ} {P H r : ℕ} → Bounded ps P H xs → r ≡ lastMet oneEach (sizeTest ps H) (length ps) xs → r < length xs
-met-inside {ps} {xs} {P} {H} w e = rw (e, w .fillable .sameLength) (lastMet-lt (length ps) oneEach (sizeTest ps H) xs (w .fillable .problem .states .someState))
+met-inside {ps} {xs} {P} {H} b e =
+    rw (e, b .fillable .sameLength) (lastMet-lt (length ps) oneEach (sizeTest ps H) xs (b .fillable .problem .states .someState))
 
 -- The same of the populations.
 pub inside-states : {ps xs : List ℕ} {P H r : ℕ} → Bounded ps P H xs → r < length xs → r < length ps
-inside-states w h = rw (w .fillable .sameLength) at h
+inside-states b h = rw (b .fillable .sameLength) at h

@@ -11,6 +11,7 @@ use lib.Dec.{ltb}
 use lib.ListN.{length, getD}
 use Rattle.apportionment.specs.Limits.{houseLimit}
 use Rattle.apportionment.specs.Lists.{firstPlace}
+use Rattle.apportionment.specs.inner.Tests.{either-way}
 use Rattle.apportionment.specs.inner.Problem.{Problem, Fillable, sum-above-zero}
 use Rattle.claims.specs.inner.Order.{wantsBefore, givesUpBefore}
 use Rattle.claims.specs.inner.SizeClaims.{sizeTest, oneEach}
@@ -39,7 +40,7 @@ first-place-next before (suc k) h = rw (sub-one (suc k))
 -- ---- placing
 
 unfoldable pub betterCandidate : Candidate → ℕ → Claim → Candidate
-betterCandidate best i m = cond (lessClaim m (best .claim)) (record { place = i; claim = m }) best
+betterCandidate best i c = cond (lessClaim c (best .claim)) (record { place = i; claim = c }) best
 
 -- The candidate is state j with its next claim.
 pub record CandidateIs (ps xs : List ℕ) (P H j : ℕ) (c : Candidate) : Type 0 where
@@ -47,34 +48,29 @@ pub record CandidateIs (ps xs : List ℕ) (P H j : ℕ) (c : Candidate) : Type 0
   pub claim : ClaimIs (getD ps j 0) (getD xs j 0) P H (c .claim)
 
 -- Comparing two claims as they are held is comparing them by the test of claims.
-pub claims-compared : {ps : List ℕ} {P H : ℕ} → Problem ps P H → (i a j b : ℕ) {m k : Claim}
-    → ClaimIs (getD ps i 0) a P H m → ClaimIs (getD ps j 0) b P H k → lessClaim m k ≡ sizeTest ps H i a j b
+pub claims-compared : {ps : List ℕ} {P H : ℕ} → Problem ps P H → (i a j b : ℕ) {c d : Claim}
+    → ClaimIs (getD ps i 0) a P H c → ClaimIs (getD ps j 0) b P H d → lessClaim c d ≡ sizeTest ps H i a j b
 unfolding sizeTest
-claims-compared {ps} {P} {H} problem i a j b mi kj =
-    rw (mi .is, kj .is, ← problem .states .sums) (claim-order-kept (getD ps i 0) a (getD ps j 0) b P H (sum-above-zero (problem .states)))
+claims-compared {ps} {P} {H} problem i a j b ci dj =
+    rw (ci .is, dj .is, ← problem .states .sums) (claim-order-kept (getD ps i 0) a (getD ps j 0) b P H (sum-above-zero (problem .states)))
 
 module _ (ps xs : List ℕ) (P H : ℕ) (problem : Problem ps P H) where
   abbrev before : ℕ → ℕ → Bool
   before = wantsBefore (sizeTest ps H) xs
 
-  pub claim-test : (i j : ℕ) {m k : Claim} → ClaimIs (getD ps i 0) (getD xs i 0) P H m → ClaimIs (getD ps j 0) (getD xs j 0) P H k
-      → lessClaim m k ≡ wantsBefore (sizeTest ps H) xs i j
+  pub claim-test : (i j : ℕ) {c d : Claim} → ClaimIs (getD ps i 0) (getD xs i 0) P H c → ClaimIs (getD ps j 0) (getD xs j 0) P H d
+      → lessClaim c d ≡ wantsBefore (sizeTest ps H) xs i j
   unfolding wantsBefore
-  claim-test i j mi kj = claims-compared problem i (getD xs i 0) j (getD xs j 0) mi kj
+  claim-test i j ci dj = claims-compared problem i (getD xs i 0) j (getD xs j 0) ci dj
 
-  pub candidate-next : (i : ℕ) {best : Candidate} {m : Claim} → 0 < i
+  pub candidate-next : (i : ℕ) {best : Candidate} {c : Claim} → 0 < i
       → CandidateIs ps xs P H (firstPlace (wantsBefore (sizeTest ps H) xs) (i - 1)) best
-      → ClaimIs (getD ps i 0) (getD xs i 0) P H m
-      → CandidateIs ps xs P H (firstPlace (wantsBefore (sizeTest ps H) xs) (i + 1 - 1)) (betterCandidate best i m)
+      → ClaimIs (getD ps i 0) (getD xs i 0) P H c
+      → CandidateIs ps xs P H (firstPlace (wantsBefore (sizeTest ps H) xs) (i + 1 - 1)) (betterCandidate best i c)
   unfolding betterCandidate
-  candidate-next i {best} {m} pos is mi = rw (add-sub-cancel i 1, first-place-next before i pos) (go (lessClaim m (best .claim)) refl)
-    where
-      j : ℕ
-      j = firstPlace before (i - 1)
-
-      go : (t : Bool) → lessClaim m (best .claim) ≡ t → CandidateIs ps xs P H (cond (before i j) i j) (betterCandidate best i m)
-      go true e = rw (sym (claim-test i j mi (is .claim)) ∙ e, e) (record { place = refl; claim = mi })
-      go false e = rw (sym (claim-test i j mi (is .claim)) ∙ e, e) is
+  candidate-next i {best} {c} pos is ci =
+      rw (add-sub-cancel i 1, first-place-next before i pos, ← claim-test i (firstPlace before (i - 1)) ci (is .claim))
+      (either-way (lessClaim c (best .claim)) (λ e. rw e (record { place = refl; claim = ci })) (λ e. rw e is))
 
 -- ---- withdrawing
 

@@ -15,7 +15,7 @@ use Rattle.claims.specs.inner.SizeOrder.{people}
 use Rattle.claims.specs.inner.SizeQuotients.{climbs-from-start, falls-to-start}
 use Rattle.claims.specs.inner.StartSeats.{state-nearest}
 use Rattle.leximin.specs.inner.Scan.{Seated, state-with}
-use Rattle.sizes.specs.inner.Quotients.{Climbing, Falling}
+use Rattle.sizes.specs.inner.Quotients.{ClimbingClaim, FallingClaim}
 
 -- Seats on their way up from the start have reached it, and seats on their way down do not pass it.
 abbrev pub Side : (up : Bool) (start a : ℕ) → Type 0
@@ -37,8 +37,8 @@ pub sided-positive : {up : Bool} {ps xs : List ℕ} {P H : ℕ} → Sided up ps 
 sided-positive s = problem-positive (sided-problem s)
 
 module _ {ps xs : List ℕ} {P H : ℕ} (i : ℕ) (inside : i < length ps) where
-  pub climbing : Sided true ps P H xs → Climbing (getD ps i 0) (getD xs i 0) P H
-  climbing s =
+  pub climbing-claim : Sided true ps P H xs → ClimbingClaim (getD ps i 0) (getD xs i 0) P H
+  climbing-claim s =
       let positive = sided-positive s in (
         state-with (s .seated .bounded) i (le-refl (getD xs i 0 + 1)),
         rw (sided-problem s .states .sums)
@@ -46,8 +46,8 @@ module _ {ps xs : List ℕ} {P H : ℕ} (i : ℕ) (inside : i < length ps) where
             (state-nearest positive i inside) (getD xs i 0) (s .side i inside)),
       )
 
-  pub falling : Sided false ps P H xs → 1 < getD xs i 0 → Falling (getD ps i 0) (getD xs i 0 - 1) P H
-  falling s h =
+  pub falling-claim : Sided false ps P H xs → 1 < getD xs i 0 → FallingClaim (getD ps i 0) (getD xs i 0 - 1) P H
+  falling-claim s h =
       let positive = sided-positive s in (
         state-with (s .seated .bounded) i (omega arith),
         rw (sided-problem s .states .sums)

@@ -14,6 +14,7 @@ use lib.ListN.{length, getD, List·getD-eq-default}
 use Rattle.apportionment.specs.Limits.{houseLimit, sumLimit}
 use Rattle.apportionment.specs.Lists.{sum}
 use Rattle.apportionment.specs.inner.Lists.{entry-at-most-sum}
+use Rattle.apportionment.specs.inner.Tests.{either-way}
 use Rattle.apportionment.specs.inner.Problem.{Problem, Fillable}
 use Rattle.apportionment.specs.Checks.{within}
 use Rattle.apportionment.specs.inner.Checks.{within-limits, within-true}
@@ -68,14 +69,12 @@ each-within-at : (limit : ℕ) (xs : List ℕ) → eachWithin limit xs ≡ true 
     → (1 ≤ getD xs i 0) × (getD xs i 0 ≤ limit)
 unfolding eachWithin
 each-within-at limit [] e i h = absurd (not-suc-le-zero h)
-each-within-at limit (x ∷ xs) e i h = by-head (within limit x) refl (each-within-at limit xs) i h
-  where
-    by-head : (t : Bool) → within limit x ≡ t
-        → (eachWithin limit xs ≡ true → (k : ℕ) → k < length xs → (1 ≤ getD xs k 0) × (getD xs k 0 ≤ limit))
-        → (k : ℕ) → k < length (x ∷ xs) → (1 ≤ getD (x ∷ xs) k 0) × (getD (x ∷ xs) k 0 ≤ limit)
-    by-head true w rest zero l = within-limits limit x w
-    by-head true w rest (suc k) l = rest (rw w at e) k (le-of-suc-le-suc l)
-    by-head false w rest k l = absurd (false≢true (rw w at e))
+each-within-at limit (x ∷ xs) e zero h =
+    either-way (within limit x) (within-limits limit x) (λ out. absurd (false≢true (rw out at e)))
+each-within-at limit (x ∷ xs) e (suc i) h =
+    either-way (within limit x)
+    (λ inside. each-within-at limit xs (rw inside at e) i (le-of-suc-le-suc h))
+    (λ out. absurd (false≢true (rw out at e)))
 
 -- Seats within the limit at each place pass.
 pub all-within : (limit : ℕ) (xs : List ℕ) → ((i : ℕ) → i < length xs → (1 ≤ getD xs i 0) × (getD xs i 0 ≤ limit))
@@ -129,25 +128,21 @@ module _ {ps : List ℕ} {P H : ℕ} (problem : Problem ps P H) (fits : length p
   -- No state has more seats than the house: placing ends at the house, and withdrawing begins at nearest seats.
   lex-within-house : (i : ℕ) → getD lex i 0 ≤ H
   unfolding gap distance totalAfter lexMoved
-  lex-within-house i = by-direction (ltb (startTotal ps H) H) refl
-    where
-      by-direction : (t : Bool) → ltb (startTotal ps H) H ≡ t → getD lex i 0 ≤ H
-      by-direction true e =
-          let below = ltb-true (startTotal ps H) H e in
-          let ends : totalAfter ps H m ≤ H = rw e (omega (arith, below, few)) in
-          le-trans (entry-at-most-sum lex i) (rw lex-total ends)
-      by-direction false e =
-          rw (← moved, e)
-          (le-trans (withdrawn-at-most oneEach (sizeTest ps H) (length ps) (startSeats ps H) m i) (start-within-house problem i))
+  lex-within-house i =
+      either-way (ltb (startTotal ps H) H)
+      (λ up.
+      let ends : totalAfter ps H m ≤ H = rw up (omega (arith, ltb-true (startTotal ps H) H up, few)) in
+      le-trans (entry-at-most-sum lex i) (rw lex-total ends))
+      (λ down. rw (← moved, down)
+      (le-trans (withdrawn-at-most oneEach (sizeTest ps H) (length ps) (startSeats ps H) m i) (start-within-house problem i)))
 
   -- The total after some steps is far below the limit of sums.
   total-fits : totalAfter ps H m ≤ sumLimit
   unfolding gap distance totalAfter
-  total-fits = by-direction (ltb (startTotal ps H) H) refl
-    where
-      by-direction : (t : Bool) → ltb (startTotal ps H) H ≡ t → totalAfter ps H m ≤ sumLimit
-      by-direction true e = rw e (omega (arith, ltb-true (startTotal ps H) H e, few, problem .houseWithin))
-      by-direction false e = rw e (omega (arith, start-total-fits problem))
+  total-fits =
+      either-way (ltb (startTotal ps H) H)
+      (λ up. rw up (omega (arith, ltb-true (startTotal ps H) H up, few, problem .houseWithin)))
+      (λ down. rw down (omega (arith, start-total-fits problem)))
 
   pub lex-agrees : seatsAgree ps lex H (totalAfter ps H m) ≡ true
   unfolding seatsAgree

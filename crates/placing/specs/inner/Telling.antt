@@ -1,7 +1,7 @@
 -- A placing of full lists is genuine exactly if it passes the tests that the code makes.
 -- Assumes nothing.
 use mathlib.Core.Path.{_≡_, refl, sym, _∙_, ap}
-use mathlib.Core.Bool.{Bool, true, false, false≢true}
+use mathlib.Core.Bool.{true, false, false≢true}
 use mathlib.Core.List.{List}
 use Prim.Native.Nat.{ℕ, _≤_}
 use lib.Dec.{leb, eqb}
@@ -16,6 +16,7 @@ use Rattle.apportionment.specs.Leximin.{leximinFor, gap, totalAfter}
 use Rattle.apportionment.specs.Allotment.{openRefusal}
 use Rattle.problem.specs.inner.Passed.{open-passed}
 use Rattle.problem.specs.inner.Total.{cappedTotal, total-is-sum}
+use Rattle.apportionment.specs.inner.Tests.{either-way}
 use Rattle.apportionment.specs.inner.Problem.{Problem}
 use Rattle.placing.specs.Placing.{padded, placingAt, peopleOf, samePlacing, genuine}
 use Rattle.placing.specs.inner.Lists.{allZero, padded-first, take-padded, zeros-past-padded}
@@ -109,18 +110,18 @@ unfolding placingAt peopleOf stepsAgree
 placed-passes ps H m opens few =
     let o = open-passed ps H opens in
     let own : take (length ps) (padded ps) ≡ ps = take-padded ps in
-    let states : length (leximinFor ps H (totalAfter ps H m)) ≡ length ps = lex-states (o .problem) (o .seatForEach) m few in
+    let lex : List ℕ = leximinFor ps H (totalAfter ps H m) in
+    let states : length lex ≡ length ps = lex-states (o .problem) (o .seatForEach) m few in
     record {
       statesFit = o .problem .states .statesWithin;
       opens = rw own opens;
       steps = rw (own, le-leb m (gap ps H) few, eq-eqb (totalAfter ps H m) (totalAfter ps H m) refl);
       seats =
-          rw (own, sym (ap (λ (k : ℕ). take k (padded (leximinFor ps H (totalAfter ps H m)))) states) ∙ take-padded (leximinFor ps H (totalAfter ps H m)))
+          rw (own, sym (ap (λ (k : ℕ). take k (padded lex)) states) ∙ take-padded lex)
           (lex-agrees (o .problem) (o .seatForEach) m few);
       peopleEnd = zeros-past-padded ps;
       seatsEnd =
-          ap (λ (k : ℕ). allZero (drop k (padded (leximinFor ps H (totalAfter ps H m))))) (sym states)
-          ∙ zeros-past-padded (leximinFor ps H (totalAfter ps H m));
+          ap (λ (k : ℕ). allZero (drop k (padded lex))) (sym states) ∙ zeros-past-padded lex;
     }
 
 -- A genuine placing passes.
@@ -148,11 +149,8 @@ passing-genuine p fullPeople fullSeats t =
 
 -- What no passing placing can be is not genuine.
 pub not-genuine : (p : Placing) → (Tested p → ⊥) → genuine p ≡ false
-not-genuine p refuted = by-test (genuine p) refl
-  where
-    by-test : (t : Bool) → genuine p ≡ t → genuine p ≡ false
-    by-test true e = absurd (refuted (genuine-passes p (genuine-facts p e)))
-    by-test false e = e
+not-genuine p refuted =
+    either-way (genuine p) (λ e. absurd (refuted (genuine-passes p (genuine-facts p e)))) (λ e. e)
 
 -- Populations that open make a problem with the sum that was added up.
 pub opened-problem : {ps : List ℕ} {P H : ℕ} → openRefusal ps H ≡ accepted → P ≡ cappedTotal ps → Problem ps P H
@@ -170,11 +168,8 @@ pub last-test : (p : Placing) → length (p .populations) ≡ stateLimit → len
     → openRefusal (peopleOf p) (p .house) ≡ accepted → stepsAgree (peopleOf p) (p .house) (p .total) (p .steps) ≡ true
     → seatsAgree (peopleOf p) (take (p .states) (p .seats)) (p .house) (p .total) ≡ true
     → allZero (drop (p .states) (p .populations)) ≡ true → allZero (drop (p .states) (p .seats)) ≡ genuine p
-last-test p fullPeople fullSeats few opens steps seats people = by-test (allZero (drop (p .states) (p .seats))) refl
-  where
-    by-test : (t : Bool) → allZero (drop (p .states) (p .seats)) ≡ t → allZero (drop (p .states) (p .seats)) ≡ genuine p
-    by-test true e =
-        e
-        ∙ sym (facts-genuine p (passing-genuine p fullPeople fullSeats
-        (record { statesFit = few; opens = opens; steps = steps; seats = seats; peopleEnd = people; seatsEnd = e })))
-    by-test false e = e ∙ sym (not-genuine p (λ t. false≢true (sym e ∙ t .seatsEnd)))
+last-test p fullPeople fullSeats few opens steps seats people =
+    either-way (allZero (drop (p .states) (p .seats)))
+    (λ e. e ∙ sym (facts-genuine p (passing-genuine p fullPeople fullSeats
+    (record { statesFit = few; opens = opens; steps = steps; seats = seats; peopleEnd = people; seatsEnd = e }))))
+    (λ e. e ∙ sym (not-genuine p (λ t. false≢true (sym e ∙ t .seatsEnd))))

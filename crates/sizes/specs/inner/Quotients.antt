@@ -10,16 +10,16 @@ use Rattle.claims.specs.inner.SizeQuotients.{Falls, fallsBefore, falls-by-quoti
 use Rattle.sizes.specs.inner.Sizes.{WithSeats}
 
 -- A claim to a seat that fits, at or above the start; and below it.
-abbrev pub Climbing : (p a P H : ℕ) → Type 0
-Climbing p a P H = WithSeats p (a + 1) P H × Climbs p P H a
+abbrev pub ClimbingClaim : (p a P H : ℕ) → Type 0
+ClimbingClaim p a P H = WithSeats p (a + 1) P H × Climbs p P H a
 
-abbrev pub Falling : (p a P H : ℕ) → Type 0
-Falling p a P H = WithSeats p (a + 1) P H × Falls p P H a
+abbrev pub FallingClaim : (p a P H : ℕ) → Type 0
+FallingClaim p a P H = WithSeats p (a + 1) P H × Falls p P H a
 
-pub climbs-compared : {p a q b P H : ℕ} → Climbing p a P H → Climbing q b P H → sizeBefore P H p a q b ≡ climbsBefore P H p a q b
+pub climbs-compared : {p a q b P H : ℕ} → ClimbingClaim p a P H → ClimbingClaim q b P H → sizeBefore P H p a q b ≡ climbsBefore P H p a q b
 climbs-compared {p} {a} {q} {b} (k, c) (l, d) = climbs-by-quotient (k .state .peopled) (k .state .someSeat) p a q b c d
 
-pub falls-compared : {p a q b P H : ℕ} → Falling p a P H → Falling q b P H → sizeBefore P H p a q b ≡ fallsBefore P H p a q b
+pub falls-compared : {p a q b P H : ℕ} → FallingClaim p a P H → FallingClaim q b P H → sizeBefore P H p a q b ≡ fallsBefore P H p a q b
 falls-compared {p} {a} {q} {b} (k, c) (l, d) = falls-by-quotient (k .state .peopled) (k .state .someSeat) p a q b c d
 
 -- The products by which quotients are compared are far below the limit of words.

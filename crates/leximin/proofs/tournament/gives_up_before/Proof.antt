@@ -4,7 +4,7 @@
 use borrow.Author.Tests.{lt-ltb, le-ltb}
 use Rattle.claims.specs.inner.Order.{givesUpBefore}
 use Rattle.claims.specs.inner.SizeClaims.{sizeTest}
-use Rattle.leximin.specs.inner.Sided.{sided-problem, falling}
+use Rattle.leximin.specs.inner.Sided.{sided-problem, falling-claim}
 use borrow.Author.Needs.{needs}
 use Rattle.leximin.proofs.tournament.gives_up_before.Statement.{statement}
 use Rattle.leximin.proofs.tournament.gives_up_before.Tie as tie
@@ -52,8 +52,8 @@ falls-before-requires c κs =
     let at-if2 = c .before .before in
     let at-if1 = at-if2 .before in
     let start = at-if1 .before .before .before .before .before in (
-      falling (start .args .i) (start .pre .1 .0) (start .pre .0) (at-if1 .if1 .left),
-      falling (start .args .j) (start .pre .1 .1) (start .pre .0) (at-if2 .if2 .left),
+      falling-claim (start .args .i) (start .pre .1 .0) (start .pre .0) (at-if1 .if1 .left),
+      falling-claim (start .args .j) (start .pre .1 .1) (start .pre .0) (at-if2 .if2 .left),
     )
 
 returns-3 : tie.Need-returns-3
