@@ -2,9 +2,11 @@
 -- Assumes nothing.
 use mathlib.Core.Path.{_≡_, sym, _∙_}
 use mathlib.Core.Logic.{⊎-elim}
+use mathlib.Core.Bool.{cond}
 use mathlib.Core.List.{List}
-use Prim.Native.Nat.{ℕ, _+_, _<_, _≤_}
+use Prim.Native.Nat.{ℕ, _+_, _*_, _/_, _<_, _≤_}
 use native.Mathlib.Omega.{arith}
+use borrow.Author.Tests.{ne-eqb}
 use native.Mathlib.Nat.{le-trans}
 use lib.ListN.{length, getD, drop, List·getD-eq-default}
 use Rattle.apportionment.specs.Limits.{sumLimit}
@@ -19,7 +21,16 @@ use Rattle.claims.specs.inner.StartNearest.{nearest-rounded, nearest-at-most-ho
 use Rattle.claims.specs.inner.StartSeats.{length-start, start-at}
 use Rattle.claims.specs.inner.StartBounds.{start-below}
 use Rattle.problem.specs.inner.Populations.{sum-from, sum-past-end}
+use Rattle.sizes.specs.inner.Sizes.{State, SizeIs, lessSize, sizes-compared}
+use Rattle.sizes.specs.declared.Size.{Size}
 use Rattle.leximin.specs.inner.Scan.{Bounded}
+
+-- Between the whole part and one more the sizes decide, as they are held.
+pub rounded-compared : {p P H : ℕ} {more fewer : Size} → State p P H → (p * H / P ≡ 0 → ⊥)
+    → SizeIs p (p * H / P + 1) P H more → SizeIs p (p * H / P) P H fewer
+    → nearestRounded p P H ≡ cond (lessSize more fewer) (p * H / P + 1) (p * H / P)
+unfolding nearestRounded
+rounded-compared s some more fewer = rw (ne-eqb _ _ some, sizes-compared (s .peopled) more fewer)
 
 module _ {ps : List ℕ} {P H : ℕ} (problem : Problem ps P H) where
   positive : Positive ps H

@@ -8,11 +8,14 @@ use native.Mathlib.Omega.{arith}
 use native.Mathlib.Numerals.{add-one}
 use native.Mathlib.Nat.{le-trans, mul-le-mul, mul-assoc, mul-lt-mul-of-pos-right, mul-le-mul-right, div-le-of-le-mul}
 use lib.Dec.{ltb}
+use mir.Syntax.{w64}
+use mir.Val.{Fits}
 use lib.ListN.{getD}
 use borrow.Author.Tests.{lt-ltb, le-ltb, ltb-true, ltb-false}
 use Rattle.apportionment.specs.Limits.{houseLimit, sumLimit}
 use Rattle.apportionment.specs.inner.Problem.{Problem, sum-above-zero, entry-at-most-total}
 use Rattle.apportionment.specs.inner.Tests.{either-way}
+use Rattle.claims.specs.inner.MachineWords.{product-fits}
 use Rattle.apportionment.specs.Quantities.{distance, sizeOf, less}
 use Rattle.claims.specs.inner.SizeClaims.{sizedClaimBefore, sizeBefore}
 use Rattle.sizes.specs.declared.Size.{Size}
@@ -132,7 +135,12 @@ pub claim-order-kept : (p a q b P H : ℕ) → 0 < P → lessClaim (claimFor p a
 unfolding lessClaim claimFor firstThen sizeBefore sizedClaimBefore
 claim-order-kept p a q b P H pos = simp (size-order-kept, add-one, pos)
 
--- ---- the whole part of a state's share
+-- ---- a state's share of the house
 
+-- What is divided by the sum.
+pub share-fits : {p P H : ℕ} → State p P H → Fits w64 (p * H)
+share-fits s = product-fits sumLimit houseLimit (le-trans (s .people) (s .sumWithin)) (s .houseWithin) tt
+
+-- Its whole part.
 pub whole-at-most-house : {p P H : ℕ} → State p P H → p * H / P ≤ H
 whole-at-most-house {p} {P} {H} s = div-le-of-le-mul P (mul-le-mul-right H (s .people))

@@ -37,7 +37,7 @@ loop-again c =
     let at-move-once = c .before .before in
     let at-loop-test = at-move-once .before .before in
     let at-loop = at-loop-test .before in
-    (omega (arith, at-loop-test .loop-test .taken), at-move-once .move-once .ensures ∙ rw (one-more-moved, at-loop .loop .inv .1))
+    (omega (arith, at-loop-test .loop-test .taken), rw (one-more-moved, ← at-loop .loop .inv .1) (at-move-once .move-once .ensures))
 
 same-length : tie.Need-same-length Inv-loop μ-loop
 same-length c =

@@ -66,7 +66,8 @@ mul-seats c =
     let at-loop = at-wide .before .before .before in
     let at-build-arg = at-loop .before .before .before .before .before in
     let start = at-build-arg .before .before .before .before in
-    omega (arith, root-inside (start .pre .0) (at-loop .loop .inv .1) (at-wide .wide .ensures), start .pre .0 .problem .states .statesWithin)
+    let inside = root-inside (start .pre .0) (at-loop .loop .inv .1) (at-wide .wide .ensures) in
+    omega (arith, inside, start .pre .0 .problem .states .statesWithin)
 
 slice-write-seats : tie.Need-slice-write-seats Inv-loop μ-loop
 slice-write-seats c =

@@ -119,8 +119,10 @@ returns-2 c =
     let at-first-unmet = at-if1 .before .before in
     let at-last-met = at-first-unmet .before in
     let start = at-last-met .before .before .before in
-    c .comes-before .ensures ∙ ends-compared (start .pre) (at-last-met .last-met .ensures)
-    (at-first-unmet .first-unmet .ensures) (at-if1 .if1 .left) (at-claim-of .claim-of .ensures) (c .before .claim-of2 .ensures)
+    rw
+    (← ends-compared (start .pre) (at-last-met .last-met .ensures) (at-first-unmet .first-unmet .ensures) (at-if1 .if1 .left)
+    (at-claim-of .claim-of .ensures) (c .before .claim-of2 .ensures))
+    (c .comes-before .ensures)
 
 pub ends-apart-spec : {M : Type 1} → statement M
 ends-apart-spec =

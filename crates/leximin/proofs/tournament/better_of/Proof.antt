@@ -23,7 +23,7 @@ returns c =
     let at-wide2 = at-if1 .before in
     let at-wide = at-wide2 .before in
     let tested = rw (at-wide2 .wide2 .ensures, at-wide .wide .ensures) at (c .before .moves-before .ensures) in
-    simp (lt-ltb _ _ (at-if1 .if1 .taken), sym tested ∙ c .if2 .taken)
+    simp (lt-ltb _ _ (at-if1 .if1 .taken), ← tested, c .if2 .taken)
 
 returns-2 : tie.Need-returns-2
 unfolding better
@@ -32,7 +32,7 @@ returns-2 c =
     let at-wide2 = at-if1 .before in
     let at-wide = at-wide2 .before in
     let tested = rw (at-wide2 .wide2 .ensures, at-wide .wide .ensures) at (c .before .moves-before .ensures) in
-    simp (lt-ltb _ _ (at-if1 .if1 .taken), sym tested ∙ c .if2 .left)
+    simp (lt-ltb _ _ (at-if1 .if1 .taken), ← tested, c .if2 .left)
 
 moves-before-requires-2 : tie.Need-moves-before-requires-2
 moves-before-requires-2 c κs = search needs
@@ -44,7 +44,7 @@ returns-3 c =
     let at-wide2 = at-if1 .before in
     let at-wide = at-wide2 .before in
     let tested = rw (at-wide .wide .ensures, at-wide2 .wide2 .ensures) at (c .before .moves-before2 .ensures) in
-    simp (le-ltb _ _ (at-if1 .if1 .left), sym tested ∙ c .if3 .taken)
+    simp (le-ltb _ _ (at-if1 .if1 .left), ← tested, c .if3 .taken)
 
 returns-4 : tie.Need-returns-4
 unfolding better
@@ -53,7 +53,7 @@ returns-4 c =
     let at-wide2 = at-if1 .before in
     let at-wide = at-wide2 .before in
     let tested = rw (at-wide .wide .ensures, at-wide2 .wide2 .ensures) at (c .before .moves-before2 .ensures) in
-    simp (le-ltb _ _ (at-if1 .if1 .left), sym tested ∙ c .if3 .left)
+    simp (le-ltb _ _ (at-if1 .if1 .left), ← tested, c .if3 .left)
 
 pub better-of-spec : {M : Type 1} → statement M
 better-of-spec =

@@ -139,9 +139,9 @@ returns-3 c =
     let start = at-if1 .before .before .before in
     c .zeros-from2 .ensures ∙ last-test (start .args .placing) (full-people start) (full-seats start)
     (at-if1 .if1 .left) (sym (at-open-refusal .open-refusal .ensures) ∙ at-if2 .if2 .left)
-    (sym (at-steps-agree .steps-agree .ensures) ∙ at-if3 .if3 .taken)
-    (sym (at-seats-agree .seats-agree .ensures) ∙ at-if4 .if4 .taken)
-    (sym (at-zeros-from .zeros-from .ensures) ∙ at-if5 .if5 .taken)
+    (rw (← at-steps-agree .steps-agree .ensures) (at-if3 .if3 .taken))
+    (rw (← at-seats-agree .seats-agree .ensures) (at-if4 .if4 .taken))
+    (rw (← at-zeros-from .zeros-from .ensures) (at-if5 .if5 .taken))
 
 returns-4 : tie.Need-returns-4
 unfolding peopleOf
