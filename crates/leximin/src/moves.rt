@@ -11,12 +11,12 @@ ghost use lib.ListN.{length};
 ghost use Rattle.apportionment.specs.Limits.{houseLimit};
 ghost use Rattle.claims.specs.inner.Order.{placed, withdrawn};
 ghost use Rattle.claims.specs.inner.SizeClaims.{sizeTest, oneEach};
-ghost use Rattle.leximin.specs.inner.Scan.{Workable, Seated};
+ghost use Rattle.leximin.specs.inner.Scan.{Bounded, Seated};
 ghost use Rattle.leximin.specs.inner.Moves.{movedOnce, movedTimes, movedBy, Movable};
 
 // The first claim not met is met.
 pub fn place(populations: &[u64], seats: &mut [u64], total: u64, house: u64)
-    requires { ⌜ Workable (now populations) (now seats) total house ⌝ }
+    requires { ⌜ Bounded (now populations) total house (now seats) ⌝ }
     ensures { λ _. ⌜ now (seats .exit) ≡ placed (sizeTest (now (populations .entry)) house) (length (now (populations .entry)))
         (now (seats .entry)) ⌝ }
 {
@@ -26,7 +26,7 @@ pub fn place(populations: &[u64], seats: &mut [u64], total: u64, house: u64)
 
 // The last claim met is given up.
 pub fn withdraw(populations: &[u64], seats: &mut [u64], total: u64, house: u64)
-    requires { ⌜ Seated (now populations) (now seats) total house ⌝ }
+    requires { ⌜ Seated (now populations) total house (now seats) ⌝ }
     ensures { λ _. ⌜ now (seats .exit) ≡ withdrawn oneEach (sizeTest (now (populations .entry)) house)
         (length (now (populations .entry))) (now (seats .entry)) ⌝ }
 {
@@ -36,7 +36,7 @@ pub fn withdraw(populations: &[u64], seats: &mut [u64], total: u64, house: u64)
 
 // One seat moved: placed where `up` is true, and withdrawn otherwise.
 fn move_once(up: bool, populations: &[u64], seats: &mut [u64], total: u64, house: u64)
-    requires { ⌜ Seated (now populations) (now seats) total house ⌝ }
+    requires { ⌜ Seated (now populations) total house (now seats) ⌝ }
     ensures { λ _. ⌜ now (seats .exit) ≡ movedOnce up (now (populations .entry)) house (now (seats .entry)) ⌝ }
 {
     if up {
@@ -110,11 +110,14 @@ fn move_by_tournament(
 // The places of a tournament among as many states as a register may have.
 const PLACES: usize = 2 * STATE_LIMIT;
 
-// Scans are cheaper than a tournament for one seat, for two among up to 32 states, for three among up to 16, and so on.
+// Making a tournament costs as much as looking at so many states (measured): a scan for each seat is cheaper for one seat, for two among
+// up to 32 states, for three among up to 16, and so on.
+const MAKING: usize = 32;
+
 fn scans_pay(states: usize, times: u64) -> bool
     requires { ⌜ 0 < states ⌝ }
 {
-    times < (2 + 32 / states) as u64
+    times <= (1 + MAKING / states) as u64
 }
 
 // Places so many seats where `up` is true, and withdraws so many otherwise.

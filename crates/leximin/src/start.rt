@@ -2,15 +2,14 @@
 use sizes::size_less;
 use sizes::size_of;
 ghost use mathlib.Core.Path.{_≡_};
-ghost use lib.ListN.{length};
 ghost use Rattle.claims.specs.inner.SizeClaims.{nearestRounded};
-ghost use Rattle.sizes.specs.inner.Sizes.{Counted};
-ghost use Rattle.leximin.specs.inner.Start.{Ready};
+ghost use Rattle.sizes.specs.inner.Sizes.{State};
+ghost use Rattle.apportionment.specs.inner.Problem.{Problem, Fillable};
 ghost use Rattle.apportionment.specs.Leximin.{startSeats, startTotal};
 
 // The seats nearest to p H / P: its whole part or one more, at least 1, the fewer where two are equally near.
 pub fn nearest_seats(population: u64, total: u64, house: u64) -> u64
-    requires { ⌜ Counted population total house ⌝ }
+    requires { ⌜ State population total house ⌝ }
     ensures { λ r. ⌜ r ≡ nearestRounded population total house ⌝ }
 {
     let whole = population * house / total;
@@ -27,7 +26,7 @@ pub fn nearest_seats(population: u64, total: u64, house: u64) -> u64
 
 // Fills the seat list with each state's nearest seats.
 pub fn fill_start(populations: &[u64], total: u64, house: u64, seats: &mut [u64])
-    requires { ⌜ Ready (now populations) total house × (length (now seats) ≡ length (now populations)) ⌝ }
+    requires { ⌜ Fillable (now populations) total house (now seats) ⌝ }
     ensures { λ _. ⌜ now (seats .exit) ≡ startSeats (now (populations .entry)) house ⌝ }
 {
     let mut i = 0;
@@ -39,7 +38,7 @@ pub fn fill_start(populations: &[u64], total: u64, house: u64, seats: &mut [u64]
 
 // The starting total L: every state's nearest seats added up.
 pub fn start_total(populations: &[u64], total: u64, house: u64) -> u64
-    requires { ⌜ Ready (now populations) total house ⌝ }
+    requires { ⌜ Problem (now populations) total house ⌝ }
     ensures { λ r. ⌜ r ≡ startTotal (now (populations .entry)) house ⌝ }
 {
     let mut sum: u64 = 0;

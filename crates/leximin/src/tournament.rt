@@ -22,7 +22,7 @@ fn wants_before(
     i: usize,
     j: usize,
 ) -> bool
-    requires { ⌜ Sided true (now populations) (now seats) total house × Pair (now populations) i j ⌝ }
+    requires { ⌜ Sided true (now populations) total house (now seats) × Pair (now populations) i j ⌝ }
     ensures { λ r. ⌜ r ≡ wantsBefore (sizeTest (now (populations .entry)) house) (now (seats .entry)) i j ⌝ }
 {
     climbs_before(
@@ -36,7 +36,7 @@ fn wants_before(
 }
 
 // State i gives up a seat rather than state j: only with one to spare, and then unless its last claim comes before the other's.
-fn gives_before(
+fn gives_up_before(
     populations: &[u64],
     seats: &[u64],
     total: u64,
@@ -44,7 +44,7 @@ fn gives_before(
     i: usize,
     j: usize,
 ) -> bool
-    requires { ⌜ Sided false (now populations) (now seats) total house × Pair (now populations) i j ⌝ }
+    requires { ⌜ Sided false (now populations) total house (now seats) × Pair (now populations) i j ⌝ }
     ensures { λ r. ⌜ r ≡ givesUpBefore oneEach (sizeTest (now (populations .entry)) house) (now (seats .entry)) i j ⌝ }
 {
     let a = seats[i];
@@ -68,13 +68,13 @@ fn moves_before(
     i: usize,
     j: usize,
 ) -> bool
-    requires { ⌜ Sided up (now populations) (now seats) total house × Pair (now populations) i j ⌝ }
+    requires { ⌜ Sided up (now populations) total house (now seats) × Pair (now populations) i j ⌝ }
     ensures { λ r. ⌜ r ≡ movesBefore up (now (populations .entry)) house (now (seats .entry)) i j ⌝ }
 {
     if up {
         return wants_before(populations, seats, total, house, i, j);
     }
-    gives_before(populations, seats, total, house, i, j)
+    gives_up_before(populations, seats, total, house, i, j)
 }
 
 // A state as the tournament holds it, in two bytes, so that there is little to clear where few seats move.
@@ -85,7 +85,7 @@ pub fn wide(state: u16) -> usize
 }
 
 // The one of two states that moves: the earlier one, unless the later one moves rather than it.
-fn better(
+fn better_of(
     up: bool,
     populations: &[u64],
     seats: &[u64],
@@ -94,7 +94,7 @@ fn better(
     i: u16,
     j: u16,
 ) -> u16
-    requires { ⌜ Sided up (now populations) (now seats) total house × Pair (now populations) i j ⌝ }
+    requires { ⌜ Sided up (now populations) total house (now seats) × Pair (now populations) i j ⌝ }
     ensures { λ r. ⌜ r ≡ betterState up (now (populations .entry)) house (now (seats .entry)) i j ⌝ }
 {
     let first = wide(i);
@@ -125,13 +125,13 @@ fn plant(states: usize, tree: &mut [u16])
 
 // Decides every inner place, from the last one to the root.
 pub fn build(up: bool, populations: &[u64], seats: &[u64], total: u64, house: u64, tree: &mut [u16])
-    requires { ⌜ Sided up (now populations) (now seats) total house × (length (now tree) ≡ 2 * length (now populations)) ⌝ }
+    requires { ⌜ Sided up (now populations) total house (now seats) × (length (now tree) ≡ 2 * length (now populations)) ⌝ }
     ensures { λ _. ⌜ Champions up (now (populations .entry)) house (now (seats .entry)) (now (tree .exit)) ⌝ }
 {
     plant(populations.len(), &mut tree[..]);
     let mut k = populations.len() - 1;
     while 0 < k {
-        tree[k] = better(
+        tree[k] = better_of(
             up,
             populations,
             seats,
@@ -154,12 +154,12 @@ pub fn replay(
     state: usize,
     tree: &mut [u16],
 )
-    requires { ⌜ Sided up (now populations) (now seats) total house × Moved up (now populations) house (now seats) state (now tree) ⌝ }
+    requires { ⌜ Sided up (now populations) total house (now seats) × Moved up (now populations) house (now seats) state (now tree) ⌝ }
     ensures { λ _. ⌜ Champions up (now (populations .entry)) house (now (seats .entry)) (now (tree .exit)) ⌝ }
 {
     let mut k = (populations.len() + state) / 2;
     while 0 < k {
-        tree[k] = better(
+        tree[k] = better_of(
             up,
             populations,
             seats,

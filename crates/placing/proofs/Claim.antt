@@ -3,8 +3,8 @@
 -- contracts of opening and stepping themselves, as `Reads` has them, so that a weaker contract of either breaks it. Beside it stands what
 -- the claim's word leximin means of the seats standing (`standing-least-of-all`): no allotment of their total has a lesser list.
 -- Assumes nothing.
-use mathlib.Core.Path.{_≡_, refl, sym, _∙_, ap}
-use mathlib.Core.Bool.{Bool, true, false, cond}
+use mathlib.Core.Path.{_≡_, sym, _∙_, ap}
+use mathlib.Core.Bool.{cond}
 use mathlib.Core.List.{List, [], _∷_}
 use Prim.Native.Nat.{ℕ, zero, suc, _+_, _-_, _<_, _≤_, min}
 use native.Mathlib.Omega.{arith}
@@ -16,6 +16,7 @@ use contract.Lifetimes.{Lfts}
 use denote.Ref.{now}
 use denote.Triple.Clauses.{AtExit}
 use borrow.Fn.Kinds.{Dens, endedOf}
+use Rattle.apportionment.specs.inner.Tests.{either-way}
 use Rattle.apportionment.specs.Refusals.{accepted, houseReached}
 use Rattle.apportionment.specs.Leximin.{leximinFor, startTotal, gap, totalAfter}
 use Rattle.claims.specs.inner.StartBounds.{gap-below-states}
@@ -23,10 +24,9 @@ use Rattle.claims.specs.inner.LeximinSteps.{states-at-most-passed}
 use Rattle.claims.specs.inner.LeastOfAll.{LeastOfAll, leximin-least-of-all}
 use Rattle.apportionment.specs.Allotment.{openRefusal}
 use Rattle.problem.specs.inner.Passed.{open-passed}
-use Rattle.leximin.specs.inner.Start.{ready-sound}
+use Rattle.claims.specs.inner.SizeClaims.{problem-positive}
 use Rattle.placing.specs.Placing.{padded, placingAt, started, openedOf, steppedOf, refusedWith}
 use Rattle.placing.specs.inner.Lists.{take-padded}
-use Rattle.placing.specs.inner.Telling.{opened-ready}
 use Rattle.placing.specs.inner.Walk.{start-is-first, step-before-house, step-at-house}
 use Rattle.placing.specs.declared.Placing.{Placing}
 use Rattle.placing.specs.declared.Placed.{Placed}
@@ -101,49 +101,48 @@ module _ (ps : List ℕ) (H : ℕ) (opens : openRefusal ps H ≡ accepted) where
       → Led (suc m) rs p → Led m (r ∷ rs) p
   unfolding refusalAt
   led-by-move {m} {r} {rs} {p} left accepts led =
-      record { is = led .is ∙ ap (placingAt ps H) (omega arith); moves = moving; stands = standing-still }
+      record { is = led .is ∙ ap (placingAt ps H) (omega arith); moves = moving; stands = resting }
     where
       moving : (i : ℕ) → i < length (r ∷ rs) → m + i < gap ps H → refusalAt (r ∷ rs) i ≡ accepted
       moving zero h l = accepts
       moving (suc i) h l = led .moves i (le-of-suc-le-suc h) (omega arith)
 
-      standing-still : (i : ℕ) → i < length (r ∷ rs) → gap ps H ≤ m + i → refusalAt (r ∷ rs) i ≡ houseReached
-      standing-still zero h l = absurd (omega (arith, l, left))
-      standing-still (suc i) h l = led .stands i (le-of-suc-le-suc h) (omega arith)
+      resting : (i : ℕ) → i < length (r ∷ rs) → gap ps H ≤ m + i → refusalAt (r ∷ rs) i ≡ houseReached
+      resting zero h l = absurd (omega (arith, l, left))
+      resting (suc i) h l = led .stands i (le-of-suc-le-suc h) (omega arith)
 
   -- It is refused 20 once the house is reached.
-  led-by-standing : {m : ℕ} {r : Placed} {rs : List Placed} {p : Placing} → m ≡ gap ps H → r .refusal ≡ houseReached
+  led-at-house : {m : ℕ} {r : Placed} {rs : List Placed} {p : Placing} → m ≡ gap ps H → r .refusal ≡ houseReached
       → Led m rs p → Led m (r ∷ rs) p
   unfolding refusalAt
-  led-by-standing {m} {r} {rs} {p} there refuses led =
-      record { is = led .is ∙ ap (placingAt ps H) (omega arith); moves = moving; stands = standing-still }
+  led-at-house {m} {r} {rs} {p} there refuses led =
+      record { is = led .is ∙ ap (placingAt ps H) (omega arith); moves = moving; stands = resting }
     where
       moving : (i : ℕ) → i < length (r ∷ rs) → m + i < gap ps H → refusalAt (r ∷ rs) i ≡ accepted
       moving i h l = absurd (omega (arith, l, there))
 
-      standing-still : (i : ℕ) → i < length (r ∷ rs) → gap ps H ≤ m + i → refusalAt (r ∷ rs) i ≡ houseReached
-      standing-still zero h l = refuses
-      standing-still (suc i) h l = led .stands i (le-of-suc-le-suc h) (omega arith)
+      resting : (i : ℕ) → i < length (r ∷ rs) → gap ps H ≤ m + i → refusalAt (r ∷ rs) i ≡ houseReached
+      resting zero h l = refuses
+      resting (suc i) h l = led .stands i (le-of-suc-le-suc h) (omega arith)
 
   -- A call on the placing after m steps: by its contract it moves on or stands still.
   call-leads : {m : ℕ} {q : Placing} {r : Placed} {rs : List Placed} → m ≤ gap ps H → q ≡ placingAt ps H m → Stepped q r
       → (suc m ≤ gap ps H → r .placing ≡ placingAt ps H (suc m) → Led (suc m) rs (standing (r .placing) rs))
       → (r .placing ≡ placingAt ps H m → Led m rs (standing (r .placing) rs)) → Led m (r ∷ rs) (standing (r .placing) rs)
   unfolding refusedWith
-  call-leads {m} {q} {r} {rs} few e s onward still = by-gap (ltb m (gap ps H)) refl
-    where
-      by-gap : (t : Bool) → ltb m (gap ps H) ≡ t → Led m (r ∷ rs) (standing (r .placing) rs)
-      by-gap true below =
-          let left = ltb-true m (gap ps H) below in
-          let handed : r ≡ record { refusal = accepted; placing = placingAt ps H (suc m) } =
-          s ∙ ap steppedOf e ∙ step-before-house ps H opens m left in
-          led-by-move left (ap (λ (x : Placed). x .refusal) handed) (onward left (ap (λ (x : Placed). x .placing) handed))
-      by-gap false above =
-          let there : m ≡ gap ps H = le-antisymm few (ltb-false m (gap ps H) above) in
-          let handed : r ≡ record { refusal = houseReached; placing = placingAt ps H m } =
-          s ∙ ap steppedOf (e ∙ ap (placingAt ps H) there) ∙ step-at-house ps H opens
-          ∙ ap (λ (k : ℕ). refusedWith houseReached (placingAt ps H k)) (sym there) in
-          led-by-standing there (ap (λ (x : Placed). x .refusal) handed) (still (ap (λ (x : Placed). x .placing) handed))
+  call-leads {m} {q} {r} {rs} few e s onward still =
+      either-way (ltb m (gap ps H))
+      (λ below.
+      let left = ltb-true m (gap ps H) below in
+      let handed : r ≡ record { refusal = accepted; placing = placingAt ps H (suc m) } =
+      s ∙ ap steppedOf e ∙ step-before-house ps H opens m left in
+      led-by-move left (ap (λ (x : Placed). x .refusal) handed) (onward left (ap (λ (x : Placed). x .placing) handed)))
+      (λ above.
+      let there : m ≡ gap ps H = le-antisymm few (ltb-false m (gap ps H) above) in
+      let handed : r ≡ record { refusal = houseReached; placing = placingAt ps H m } =
+      s ∙ ap steppedOf (e ∙ ap (placingAt ps H) there) ∙ step-at-house ps H opens
+      ∙ ap (λ (k : ℕ). refusedWith houseReached (placingAt ps H k)) (sym there) in
+      led-at-house there (ap (λ (x : Placed). x .refusal) handed) (still (ap (λ (x : Placed). x .placing) handed)))
 
   calls-lead : {m : ℕ} {q : Placing} {rs : List Placed} → m ≤ gap ps H → q ≡ placingAt ps H m → Calls q rs → Led m rs (standing q rs)
   unfolding standing
@@ -160,17 +159,11 @@ module _ (ps : List ℕ) (H : ℕ) (opens : openRefusal ps H ≡ accepted) where
 -- An opening that was not refused opens.
 not-refused : {ps : List ℕ} {H : ℕ} {r : Placed} → Opened ps H r → (openRefusal ps H ≡ accepted) × (r .placing ≡ started ps H)
 unfolding openedOf
-not-refused {ps} {H} {r} opened = by-refusal (eqb (openRefusal ps H) accepted) refl
-  where
-    handed : r ≡ openedOf ps H
-    handed = rw (opened .populations, opened .house) at (opened .contract)
-
-    by-refusal : (t : Bool) → eqb (openRefusal ps H) accepted ≡ t → (openRefusal ps H ≡ accepted) × (r .placing ≡ started ps H)
-    by-refusal true t =
-        (eqb-true _ _ t, ap (λ (x : Placed). x .placing) (rw t at handed))
-    by-refusal false t =
-        let refuses : openRefusal ps H ≡ accepted = sym (ap (λ (x : Placed). x .refusal) (rw t at handed)) ∙ opened .accepts in
-        absurd (eqb-false _ _ t refuses)
+not-refused {ps} {H} {r} opened =
+    let handed : r ≡ openedOf ps H = rw (opened .populations, opened .house) at (opened .contract) in
+    either-way (eqb (openRefusal ps H) accepted)
+    (λ t. (eqb-true _ _ t, ap (λ (x : Placed). x .placing) (rw t at handed)))
+    (λ t. absurd (eqb-false _ _ t (sym (ap (λ (x : Placed). x .refusal) (rw t at handed)) ∙ opened .accepts)))
 
 led-claimed : (ps : List ℕ) (H : ℕ) (opens : openRefusal ps H ≡ accepted) {rs : List Placed} {p : Placing}
     → Led ps H opens 0 rs p → Claimed ps H rs p
@@ -187,7 +180,7 @@ led-claimed ps H opens {rs} {p} led =
       house = ap (λ (q : Placing). q .house) is;
       moves = λ i h l. led .moves i h (rw (zero-add i) l);
       stands = λ i h l. led .stands i h (rw (zero-add i) l);
-      near = gap-below-states (ready-sound (opened-ready (open-passed ps H opens)));
+      near = gap-below-states (problem-positive (open-passed ps H opens .problem));
     }
 
 -- Demand 3: an opening that was not refused handed back r, and calls of stepping in a row from there handed back rs.
@@ -212,7 +205,8 @@ standing-least-of-all {ps} {H} {r} opened rs calls =
     let p = standing (r .placing) rs in
     let claimed = demand opened rs calls in
     let o = open-passed ps H (not-refused opened .0) in
-    let sound = ready-sound (opened-ready o) in
+    let positive = problem-positive (o .problem) in
     let few : p .steps ≤ gap ps H = omega (arith, claimed .steps) in
-    let least = leximin-least-of-all sound (p .total) (rw (claimed .total) (states-at-most-passed sound (o .seatForEach) (p .steps) few)) in
+    let enough = states-at-most-passed positive (o .seatForEach) (p .steps) few in
+    let least = leximin-least-of-all positive (p .total) (rw (claimed .total) enough) in
     rw (claimed .states, claimed .seats, ← least .allotted .states, take-padded) least

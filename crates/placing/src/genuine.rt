@@ -10,17 +10,14 @@ use leximin::start::start_total;
 use problem::open_refusal;
 use problem::total_of;
 ghost use mathlib.Core.Path.{_≡_};
-ghost use mathlib.Core.Bool.{false, cond, _&&_};
-ghost use lib.Dec.{leb, eqb};
-ghost use lib.ListN.{length, take};
-ghost use Rattle.apportionment.specs.Leximin.{gap, totalAfter};
-ghost use Rattle.leximin.specs.inner.Start.{Ready};
+ghost use mathlib.Core.Bool.{false};
+ghost use Rattle.apportionment.specs.inner.Problem.{Problem, Fillable};
 ghost use Rattle.placing.specs.Placing.{genuine};
 ghost use Rattle.placing.specs.inner.Genuine.{stepsAgree, seatsAgree};
 
 // The steps are no more than the gap, and the total is the one that they lead to.
 fn steps_agree(populations: &[u64], sum: u64, house: u64, total: u64, steps: u64) -> bool
-    requires { ⌜ Ready (now populations) sum house ⌝ }
+    requires { ⌜ Problem (now populations) sum house ⌝ }
     ensures { λ r. ⌜ r ≡ stepsAgree (now (populations .entry)) house total steps ⌝ }
 {
     let begun = start_total(populations, sum, house);
@@ -38,7 +35,7 @@ fn steps_agree(populations: &[u64], sum: u64, house: u64, total: u64, steps: u64
 
 // The seats are the leximin allotment for the total, as their two ends tell.
 fn seats_agree(populations: &[u64], seats: &[u64], sum: u64, house: u64, total: u64) -> bool
-    requires { ⌜ Ready (now populations) sum house × (length (now seats) ≡ length (now populations)) ⌝ }
+    requires { ⌜ Fillable (now populations) sum house (now seats) ⌝ }
     ensures { λ r. ⌜ r ≡ seatsAgree (now (populations .entry)) (now (seats .entry)) house total ⌝ }
 {
     if total_of(seats) != total {

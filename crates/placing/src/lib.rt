@@ -17,7 +17,7 @@ use problem::open_refusal;
 use problem::total_of;
 ghost use mathlib.Core.Path.{_≡_};
 ghost use Prim.Native.Nat.{_+_};
-ghost use Rattle.leximin.specs.inner.Start.{Ready};
+ghost use Rattle.apportionment.specs.inner.Problem.{Problem};
 ghost use Rattle.placing.specs.Placing.{openedOf, steppedOf, emptyPlacing, started, refusedWith, placingAt, peopleOf};
 ghost use Rattle.placing.specs.inner.Telling.{Genuine};
 
@@ -60,7 +60,7 @@ fn handed_back(refusal: u64, placing: Placing) -> Placed
 
 // The start of a problem that the checks let through.
 fn started_placing(populations: &[u64], sum: u64, house: u64) -> Placing
-    requires { ⌜ Ready (now populations) sum house ⌝ }
+    requires { ⌜ Problem (now populations) sum house ⌝ }
     ensures { λ r. ⌜ r ≡ started (now (populations .entry)) house ⌝ }
 {
     let n = populations.len();

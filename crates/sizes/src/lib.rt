@@ -4,7 +4,7 @@ pub mod quotients;
 ghost use mathlib.Core.Path.{_≡_};
 ghost use Prim.Native.Nat.{_+_};
 ghost use Rattle.apportionment.specs.Quantities.{distance};
-ghost use Rattle.sizes.specs.inner.Sizes.{Measured, SizeIs, lessSize, Small, firstThen, MoveIs, lessMove, SmallMove};
+ghost use Rattle.sizes.specs.inner.Sizes.{WithSeats, SizeIs, lessSize, Small, firstThen, ClaimIs, lessClaim, SmallClaim};
 
 // A size |p H - a P| / a. The factor P of its denominator is the same for every size of a problem, so it is left out, and products of
 // two such numbers stay below 2^63.
@@ -14,7 +14,7 @@ pub struct Size {
 }
 
 // The two sizes of a claim: at the seats that the state has, and with one more.
-pub struct Move {
+pub struct Claim {
     pub old: Size,
     pub new: Size,
 }
@@ -26,7 +26,7 @@ fn distance_of(x: u64, y: u64) -> u64
 }
 
 pub fn size_of(population: u64, seats: u64, total: u64, house: u64) -> Size
-    requires { ⌜ Measured population seats total house ⌝ }
+    requires { ⌜ WithSeats population seats total house ⌝ }
     ensures { λ r. ⌜ SizeIs population seats total house r ⌝ }
 {
     Size {
@@ -56,38 +56,38 @@ fn first_then(s: Size, t: Size, u: Size, v: Size) -> bool
     size_less(u, v)
 }
 
-pub fn move_of(population: u64, seats: u64, total: u64, house: u64) -> Move
-    requires { ⌜ Measured population (seats + 1) total house ⌝ }
-    ensures { λ r. ⌜ MoveIs population seats total house r ⌝ }
+pub fn claim_of(population: u64, seats: u64, total: u64, house: u64) -> Claim
+    requires { ⌜ WithSeats population (seats + 1) total house ⌝ }
+    ensures { λ r. ⌜ ClaimIs population seats total house r ⌝ }
 {
     let old = size_of(population, seats, total, house);
     let new = size_of(population, seats + 1, total, house);
-    Move { old, new }
+    Claim { old, new }
 }
 
-// The claim m comes before the claim k.
-pub fn move_less(m: Move, k: Move) -> bool
-    requires { ⌜ SmallMove m × SmallMove k ⌝ }
-    ensures { λ r. ⌜ r ≡ lessMove m k ⌝ }
+// One claim comes before the other.
+pub fn claim_less(own: Claim, other: Claim) -> bool
+    requires { ⌜ SmallClaim own × SmallClaim other ⌝ }
+    ensures { λ r. ⌜ r ≡ lessClaim own other ⌝ }
 {
-    let m_old = m.old;
-    let m_new = m.new;
-    let k_old = k.old;
-    let k_new = k.new;
-    if size_less(m_new, m_old) {
-        if size_less(k_new, k_old) {
-            return first_then(k_old, m_old, m_new, k_new);
+    let own_old = own.old;
+    let own_new = own.new;
+    let other_old = other.old;
+    let other_new = other.new;
+    if size_less(own_new, own_old) {
+        if size_less(other_new, other_old) {
+            return first_then(other_old, own_old, own_new, other_new);
         }
         return true;
     }
-    if size_less(k_new, k_old) {
+    if size_less(other_new, other_old) {
         return false;
     }
-    if size_less(m_old, m_new) {
-        if size_less(k_old, k_new) {
-            return first_then(m_new, k_new, k_old, m_old);
+    if size_less(own_old, own_new) {
+        if size_less(other_old, other_new) {
+            return first_then(own_new, other_new, other_old, own_old);
         }
         return false;
     }
-    size_less(k_old, k_new)
+    size_less(other_old, other_new)
 }

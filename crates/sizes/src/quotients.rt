@@ -6,11 +6,12 @@ ghost use Prim.Native.Nat.{_+_};
 ghost use Rattle.apportionment.specs.Quantities.{less, sizeOf};
 ghost use Rattle.claims.specs.inner.SizeClaims.{sizeBefore};
 ghost use Rattle.claims.specs.inner.SizeQuotients.{risesBefore};
-ghost use Rattle.sizes.specs.inner.Quotients.{Claimed, Climbing, Falling};
+ghost use Rattle.sizes.specs.inner.Sizes.{WithSeats};
+ghost use Rattle.sizes.specs.inner.Quotients.{ClimbingClaim, FallingClaim};
 
 // The state's size rises with one seat more.
 fn rises(population: u64, seats: u64, total: u64, house: u64) -> bool
-    requires { ⌜ Claimed population seats total house ⌝ }
+    requires { ⌜ WithSeats population (seats + 1) total house ⌝ }
     ensures { λ r. ⌜ r ≡ less (sizeOf population seats total house) (sizeOf population (seats + 1) total house) ⌝ }
 {
     let present = size_of(population, seats, total, house);
@@ -20,7 +21,7 @@ fn rises(population: u64, seats: u64, total: u64, house: u64) -> bool
 
 // Of two rising claims, that of population p with a seats comes before that of q with b.
 fn rises_before(p: u64, a: u64, q: u64, b: u64, total: u64, house: u64) -> bool
-    requires { ⌜ Claimed p a total house × Claimed q b total house ⌝ }
+    requires { ⌜ WithSeats p (a + 1) total house × WithSeats q (b + 1) total house ⌝ }
     ensures { λ r. ⌜ r ≡ risesBefore total house p a q b ⌝ }
 {
     let own = p * (b + 1);
@@ -38,7 +39,7 @@ fn rises_before(p: u64, a: u64, q: u64, b: u64, total: u64, house: u64) -> bool
 
 // Of two claims at or above the start, that of population p with a seats comes before that of q with b: level claims come first.
 pub fn climbs_before(p: u64, a: u64, q: u64, b: u64, total: u64, house: u64) -> bool
-    requires { ⌜ Climbing p a total house × Climbing q b total house ⌝ }
+    requires { ⌜ ClimbingClaim p a total house × ClimbingClaim q b total house ⌝ }
     ensures { λ r. ⌜ r ≡ sizeBefore total house p a q b ⌝ }
 {
     let other = rises(q, b, total, house);
@@ -53,7 +54,7 @@ pub fn climbs_before(p: u64, a: u64, q: u64, b: u64, total: u64, house: u64) -> 
 
 // Of two claims below the start, that of population p with a seats comes before that of q with b.
 pub fn falls_before(p: u64, a: u64, q: u64, b: u64, total: u64, house: u64) -> bool
-    requires { ⌜ Falling p a total house × Falling q b total house ⌝ }
+    requires { ⌜ FallingClaim p a total house × FallingClaim q b total house ⌝ }
     ensures { λ r. ⌜ r ≡ sizeBefore total house p a q b ⌝ }
 {
     let own = p * b;

@@ -14,7 +14,7 @@ use Rattle.apportionment.specs.inner.Lists.{sum-listOf-one}
 use Rattle.apportionment.specs.Leximin.{sizeList, listLess, chosenBefore, leximinFor, startSeats, startTotal}
 use Rattle.claims.specs.inner.Order.{Standing, placedTimes, withdrawnTimes}
 use Rattle.claims.specs.inner.Standing.{placedTimes-standing, sum-placedTimes, withdrawnTimes-standing, sum-withdrawnTimes}
-use Rattle.claims.specs.inner.SizeClaims.{Sound, oneEach, sizeTest}
+use Rattle.claims.specs.inner.SizeClaims.{Positive, oneEach, sizeTest}
 use Rattle.claims.specs.inner.SizeShape.{le-or-lt}
 use Rattle.claims.specs.inner.SizeOrder.{size-order}
 use Rattle.claims.specs.inner.StartSeats.{start-standing}
@@ -34,7 +34,7 @@ pub record LeastOfAll (ps : List ℕ) (H total : ℕ) (xs : List ℕ) : Type 0 w
 abbrev StandingAt : (ps : List ℕ) (H total : ℕ) → Type 0
 StandingAt ps H total = (xs : List ℕ) × Standing (length ps) oneEach (sizeTest ps H) xs × (sum xs ≡ total)
 
-module _ {ps : List ℕ} {H : ℕ} (s : Sound ps H) where
+module _ {ps : List ℕ} {H : ℕ} (s : Positive ps H) where
   -- Seats placed one by one from the start lead to any total from its own up.
   placed-to : (total : ℕ) → startTotal ps H ≤ total → StandingAt ps H total
   unfolding startTotal

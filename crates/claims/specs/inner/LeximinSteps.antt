@@ -1,8 +1,8 @@
 -- Leximin's steps. From the start a step places the first claim not met while the total is below the house, and otherwise withdraws the
 -- last one met; after every step the seats are the leximin allotment for their total, and their two ends alone tell whether seats are.
 -- Assumes nothing.
-use mathlib.Core.Path.{_≡_, refl, sym, _∙_}
-use mathlib.Core.Bool.{Bool, true, false, cond}
+use mathlib.Core.Path.{_≡_, sym, _∙_}
+use mathlib.Core.Bool.{true, false, cond}
 use mathlib.Core.List.{List}
 use Prim.Native.Nat.{ℕ, suc, _+_, _<_, _≤_}
 use native.Mathlib.Nat.{le-refl, le-of-lt}
@@ -12,12 +12,13 @@ use lib.ListN.{length, getD}
 use borrow.Author.Tests.{ltb-true, ltb-false}
 use Rattle.apportionment.specs.Lists.{sum, listOf}
 use Rattle.apportionment.specs.inner.Lists.{sum-listOf-one}
+use Rattle.apportionment.specs.inner.Tests.{either-way}
 use Rattle.apportionment.specs.Quantities.{distance}
 use Rattle.apportionment.specs.Leximin.{startSeats, startTotal, gap, totalAfter, leximinFor}
 use Rattle.claims.specs.inner.Order.{Standing, placed, placedTimes, withdrawn, withdrawnTimes, endsApart}
 use Rattle.claims.specs.inner.Standing.{placedTimes-standing, sum-placedTimes, withdrawnTimes-standing, sum-withdrawnTimes}
 use Rattle.claims.specs.inner.Standing.{ends-standing, standing-ends}
-use Rattle.claims.specs.inner.SizeClaims.{sizeTest, oneEach, Sound}
+use Rattle.claims.specs.inner.SizeClaims.{sizeTest, oneEach, Positive}
 use Rattle.claims.specs.inner.SizeOrder.{size-order}
 use Rattle.claims.specs.inner.Optimal.{standing-leximin}
 use Rattle.claims.specs.inner.StartSeats.{start-standing}
@@ -37,44 +38,29 @@ lexMoved ps H m =
     (placedTimes (sizeTest ps H) (length ps) (startSeats ps H) m)
     (withdrawnTimes oneEach (sizeTest ps H) (length ps) (startSeats ps H) m)
 
-no-direction : (t : Bool) (xs : List ℕ) → cond t xs xs ≡ xs
-no-direction true xs = refl
-no-direction false xs = refl
-
 -- With no step made the seats are the start.
 pub no-step-made : (ps : List ℕ) (H : ℕ) → lexMoved ps H 0 ≡ startSeats ps H
 unfolding lexMoved placedTimes withdrawnTimes
-no-step-made ps H = no-direction (ltb (startTotal ps H) H) (startSeats ps H)
-
-same-direction : (t : Bool) (up down : List ℕ → List ℕ) (xs ys : List ℕ)
-    → cond t (up xs) (down ys) ≡ cond t (up (cond t xs ys)) (down (cond t xs ys))
-same-direction true up down xs ys = refl
-same-direction false up down xs ys = refl
+no-step-made ps H = either-way (ltb (startTotal ps H) H) (λ up. rw up) (λ down. rw down)
 
 -- One step more is the next move.
 pub one-step-more : (ps : List ℕ) (H m : ℕ) → lexMoved ps H (suc m) ≡ lexStep ps H (lexMoved ps H m)
 unfolding lexMoved lexStep placedTimes withdrawnTimes
-one-step-more ps H m =
-    same-direction (ltb (startTotal ps H) H)
-    (placed (sizeTest ps H) (length ps))
-    (withdrawn oneEach (sizeTest ps H) (length ps))
-    (placedTimes (sizeTest ps H) (length ps) (startSeats ps H) m)
-    (withdrawnTimes oneEach (sizeTest ps H) (length ps) (startSeats ps H) m)
+one-step-more ps H m = either-way (ltb (startTotal ps H) H) (λ up. rw up) (λ down. rw down)
 
 -- ---- the total after each step
 
 -- As many steps as the gap lead to the house.
 pub total-at-gap : (ps : List ℕ) (H : ℕ) → totalAfter ps H (gap ps H) ≡ H
 unfolding totalAfter gap distance
-total-at-gap ps H = by-direction (ltb (startTotal ps H) H) refl
-  where
-    by-direction : (t : Bool) → ltb (startTotal ps H) H ≡ t → totalAfter ps H (gap ps H) ≡ H
-    by-direction true e = rw e (omega (arith, ltb-true (startTotal ps H) H e))
-    by-direction false e = rw e (omega (arith, ltb-false (startTotal ps H) H e))
+total-at-gap ps H =
+    either-way (ltb (startTotal ps H) H)
+    (λ up. rw up (omega (arith, ltb-true (startTotal ps H) H up)))
+    (λ down. rw down (omega (arith, ltb-false (startTotal ps H) H down)))
 
 -- ---- the seats after each step
 
-module _ {ps : List ℕ} {H : ℕ} (s : Sound ps H) (fits : length ps ≤ H) where
+module _ {ps : List ℕ} {H : ℕ} (s : Positive ps H) (fits : length ps ≤ H) where
   -- The seats above one each are enough to withdraw m.
   enough : (m : ℕ) → m ≤ gap ps H → ltb (startTotal ps H) H ≡ false → sum (listOf oneEach (length ps)) + m ≤ sum (startSeats ps H)
   unfolding gap distance startTotal
@@ -82,23 +68,24 @@ module _ {ps : List ℕ} {H : ℕ} (s : Sound ps H) (fits : length ps ≤ H) whe
 
   pub moved-standing : (m : ℕ) → m ≤ gap ps H → Standing (length ps) oneEach (sizeTest ps H) (lexMoved ps H m)
   unfolding lexMoved
-  moved-standing m h = by-direction (ltb (startTotal ps H) H) refl
-    where
-      by-direction : (t : Bool) → ltb (startTotal ps H) H ≡ t → Standing (length ps) oneEach (sizeTest ps H) (lexMoved ps H m)
-      by-direction true e =
-          rw e (placedTimes-standing (length ps) oneEach (sizeTest ps H) (size-order s) (startSeats ps H) m (s .someState) (start-standing s))
-      by-direction false e =
-          rw e (withdrawnTimes-standing (length ps) oneEach (sizeTest ps H) (size-order s) (startSeats ps H) m (s .someState) (start-standing s) (enough m h e))
+  moved-standing m h =
+      either-way (ltb (startTotal ps H) H)
+      (λ up. rw up
+      (placedTimes-standing (length ps) oneEach (sizeTest ps H) (size-order s) (startSeats ps H) m (s .someState) (start-standing s)))
+      (λ down. rw down
+      (withdrawnTimes-standing (length ps) oneEach (sizeTest ps H) (size-order s) (startSeats ps H) m (s .someState) (start-standing s)
+      (enough m h down)))
 
   pub moved-total : (m : ℕ) → m ≤ gap ps H → sum (lexMoved ps H m) ≡ totalAfter ps H m
   unfolding lexMoved totalAfter startTotal
-  moved-total m h = by-direction (ltb (startTotal ps H) H) refl
-    where
-      by-direction : (t : Bool) → ltb (startTotal ps H) H ≡ t → sum (lexMoved ps H m) ≡ totalAfter ps H m
-      by-direction true e =
-          rw e (sum-placedTimes (length ps) (sizeTest ps H) (startSeats ps H) m (s .someState) (start-standing s .states))
-      by-direction false e =
-          rw e (omega (arith, sum-withdrawnTimes (length ps) oneEach (sizeTest ps H) (size-order s) (startSeats ps H) m (s .someState) (start-standing s .states) (enough m h e)))
+  moved-total m h =
+      either-way (ltb (startTotal ps H) H)
+      (λ up. rw up (sum-placedTimes (length ps) (sizeTest ps H) (startSeats ps H) m (s .someState) (start-standing s .states)))
+      (λ down.
+      let taken =
+      sum-withdrawnTimes (length ps) oneEach (sizeTest ps H) (size-order s) (startSeats ps H) m (s .someState) (start-standing s .states)
+      (enough m h down) in
+      rw down (omega (arith, taken)))
 
   -- Each total passed has a seat for each state.
   pub states-at-most-passed : (m : ℕ) → m ≤ gap ps H → length ps ≤ totalAfter ps H m

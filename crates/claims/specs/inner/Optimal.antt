@@ -16,12 +16,12 @@ use Rattle.apportionment.specs.inner.Lists.{entry-at-most-sum}
 use Rattle.apportionment.specs.Quantities.{Fraction, sizeOf}
 use Rattle.apportionment.specs.Leximin.{sizesOf, sizeList, listLess, moreAtFirst, chosenBefore, leximinFor, allotments}
 use Rattle.claims.specs.inner.Order.{Standing}
-use Rattle.claims.specs.inner.SizeClaims.{Sound, oneEach, sizeTest, sizeBefore}
+use Rattle.claims.specs.inner.SizeClaims.{Positive, oneEach, sizeTest, sizeBefore}
 use Rattle.claims.specs.inner.SizeOrder.{people, size-order}
-use Rattle.apportionment.specs.inner.Tests.{cond-both}
+use Rattle.apportionment.specs.inner.Tests.{cond-both, either-way}
 use Rattle.claims.specs.inner.Every.{Every, every-implied}
 use Rattle.claims.specs.inner.Weights.{Over, factorial, factorial-pos, size-over, Weighing, coarser, weight, powers-weigh, total}
-use Rattle.claims.specs.inner.Weights.{sorted-order, move-order}
+use Rattle.claims.specs.inner.Weights.{sorted-order, claim-order-by-weight}
 use Rattle.claims.specs.inner.Allotments.{Allotment, every-allotment, in-allotments, winner-first}
 use Rattle.claims.specs.inner.Prices.{costOf, ByCost, standing-costs-least, standing-wins-ties}
 
@@ -41,11 +41,7 @@ more-asymmetric (x ∷ xs) (y ∷ ys) e = by-test (ltb y x) (ltb x y) refl refl 
     by-test false false es et rest h = rest h
 
 more-irreflexive : (xs : List ℕ) → moreAtFirst xs xs ≡ false
-more-irreflexive xs = by-test (moreAtFirst xs xs) refl
-  where
-    by-test : (t : Bool) → moreAtFirst xs xs ≡ t → moreAtFirst xs xs ≡ false
-    by-test true e = more-asymmetric xs xs e
-    by-test false e = e
+more-irreflexive xs = either-way (moreAtFirst xs xs) (more-asymmetric xs xs) (λ e. e)
 
 -- ---- the sizes of an allotment
 
@@ -72,8 +68,9 @@ module _ (P H : ℕ) where
 
 -- ---- sizes weighed
 
--- How many times a size outweighs a smaller one: more than there are states, so that one larger size outweighs a smaller one of every state
--- (`sorted-order`), and 3 at least, so that claims are in the order of what they add (`move-order`). n + 3 is both, whatever n is.
+-- How many times a size outweighs a smaller one: more than there are states, so that one larger size outweighs a smaller one of every
+-- state (`sorted-order`), and 3 at least, so that claims are in the order of what they add (`claim-order-by-weight`). n + 3 is both,
+-- whatever n is.
 abbrev base : List ℕ → ℕ
 base ps = length ps + 3
 
@@ -85,12 +82,12 @@ sizeWeight ps most = weight (base ps) (factorial most * sum ps)
 abbrev stateWeight : (ps : List ℕ) (H most i a : ℕ) → ℕ
 stateWeight ps H most i a = sizeWeight ps most (sizeOf (getD ps i 0) a (sum ps) H)
 
-module _ (ps : List ℕ) (H most : ℕ) (sound : Sound ps H) where
+module _ (ps : List ℕ) (H most : ℕ) (positive : Positive ps H) where
   abbrev C : ℕ
   C = factorial most * sum ps
 
   weighing : Weighing (base ps) (Over C) (sizeWeight ps most)
-  weighing = powers-weigh (base ps) C (omega arith) (mul-pos (factorial-pos most) (people sound))
+  weighing = powers-weigh (base ps) C (omega arith) (mul-pos (factorial-pos most) (people positive))
 
   -- Leximin's claims are ordered by what they add to the weight.
   by-weight : ByCost most (stateWeight ps H most) (sizeTest ps H)
@@ -98,7 +95,7 @@ module _ (ps : List ℕ) (H most : ℕ) (sound : Sound ps H) where
   by-weight i a j b sa ha sb hb =
       let over : (i a : ℕ) → 1 ≤ a → a ≤ most → Over C (sizeOf (getD ps i 0) a (sum ps) H) =
       λ i a some le. size-over most (getD ps i 0) a (sum ps) H some le in
-      move-order (Over C) (sizeWeight ps most) (coarser (omega arith) weighing) _ _ _ _
+      claim-order-by-weight (Over C) (sizeWeight ps most) (coarser (omega arith) weighing) _ _ _ _
       (over i a sa (omega arith))
       (over i (suc a) (omega arith) ha)
       (over j b sb (omega arith))
@@ -120,14 +117,17 @@ module _ (ps : List ℕ) (H most : ℕ) (sound : Sound ps H) where
     lists-by-weight ys zs hy hz =
         let ly = length-sizes (sum ps) H ps ys (hy .states) in
         let lz = length-sizes (sum ps) H ps zs (hz .states) in
-        rw (← total-sizes (sum ps) H (sizeWeight ps most) ps ys (hy .states), ← total-sizes (sum ps) H (sizeWeight ps most) ps zs (hz .states))
+        rw (
+          ← total-sizes (sum ps) H (sizeWeight ps most) ps ys (hy .states),
+          ← total-sizes (sum ps) H (sizeWeight ps most) ps zs (hz .states),
+        )
         (sorted-order (base ps) (Over C) (sizeWeight ps most) weighing (omega arith)
         (sizesOf (sum ps) H ps ys) (sizesOf (sum ps) H ps zs)
         (ly ∙ sym lz) (omega arith) (sizes-over ys hy) (sizes-over zs hz))
 
 -- ---- seats that stand are chosen
 
-module _ (ps : List ℕ) (H : ℕ) (sound : Sound ps H) (xs : List ℕ) (standing : Standing (length ps) oneEach (sizeTest ps H) xs) where
+module _ (ps : List ℕ) (H : ℕ) (positive : Positive ps H) (xs : List ℕ) (standing : Standing (length ps) oneEach (sizeTest ps H) xs) where
   abbrev most : ℕ
   most = suc (sum xs)
 
@@ -140,20 +140,21 @@ module _ (ps : List ℕ) (H : ℕ) (sound : Sound ps H) (xs : List ℕ) (standin
   module _ (ys : List ℕ) (other : Allotment (length ps) (sum xs) ys) where
     weighs-least : cost xs ≤ cost ys
     weighs-least =
-        standing-costs-least (length ps) most (stateWeight ps H most) (sizeTest ps H) (size-order sound) (by-weight ps H most sound)
-        xs standing (sound .someState) (omega arith) ys other
+        standing-costs-least (length ps) most (stateWeight ps H most) (sizeTest ps H) (size-order positive) (by-weight ps H most positive)
+        xs standing (positive .someState) (omega arith) ys other
 
     wins-ties : ltb (cost xs) (cost ys) ≡ false → (xs ≡ ys) ⊎ (moreAtFirst xs ys ≡ true)
     wins-ties e =
-        standing-wins-ties (length ps) most (stateWeight ps H most) (sizeTest ps H) (size-order sound) (by-weight ps H most sound)
-        xs standing (sound .someState) (omega arith) ys other (le-antisymm weighs-least (ltb-false (cost xs) (cost ys) e))
+        standing-wins-ties (length ps) most (stateWeight ps H most) (sizeTest ps H) (size-order positive) (by-weight ps H most positive)
+        xs standing (positive .someState) (omega arith) ys other (le-antisymm weighs-least (ltb-false (cost xs) (cost ys) e))
 
     less-by-weight : listLess (sizeList ps H xs) (sizeList ps H ys) ≡ ltb (cost xs) (cost ys)
-    less-by-weight = lists-by-weight ps H most sound (sum xs) (omega arith) xs ys own-allotment other
+    less-by-weight = lists-by-weight ps H most positive (sum xs) (omega arith) xs ys own-allotment other
 
     -- No other has a list less than theirs.
     pub never-less : listLess (sizeList ps H ys) (sizeList ps H xs) ≡ false
-    never-less = lists-by-weight ps H most sound (sum xs) (omega arith) ys xs other own-allotment ∙ le-ltb (cost ys) (cost xs) weighs-least
+    never-less =
+        lists-by-weight ps H most positive (sum xs) (omega arith) ys xs other own-allotment ∙ le-ltb (cost ys) (cost xs) weighs-least
 
     -- No other is chosen before them.
     not-chosen : chosenBefore ps H ys xs ≡ false
@@ -174,14 +175,14 @@ module _ (ps : List ℕ) (H : ℕ) (sound : Sound ps H) (xs : List ℕ) (standin
         (λ e. ⊎-elim (λ (same : xs ≡ ys). inl (sym same)) (λ (more : moreAtFirst xs ys ≡ true). inr more) (wins-ties e)))
 
 -- Seats that stand are the leximin allotment for their total.
-pub standing-leximin : {ps : List ℕ} {H : ℕ} {xs : List ℕ} → Sound ps H → Standing (length ps) oneEach (sizeTest ps H) xs
+pub standing-leximin : {ps : List ℕ} {H : ℕ} {xs : List ℕ} → Positive ps H → Standing (length ps) oneEach (sizeTest ps H) xs
     → leximinFor ps H (sum xs) ≡ xs
 unfolding leximinFor
-standing-leximin {ps} {H} {xs} sound standing =
+standing-leximin {ps} {H} {xs} positive standing =
     winner-first (chosenBefore ps H) xs (allotments (length ps) (sum xs))
     (every-implied
     (λ (ys : List ℕ) (other : Allotment (length ps) (sum xs) ys).
-    (not-chosen ps H sound xs standing ys other, chosen ps H sound xs standing ys other))
+    (not-chosen ps H positive xs standing ys other, chosen ps H positive xs standing ys other))
     (allotments (length ps) (sum xs))
     (every-allotment (length ps) (sum xs)))
-    (in-allotments (length ps) (sum xs) xs (own-allotment ps H sound xs standing))
+    (in-allotments (length ps) (sum xs) xs (own-allotment ps H positive xs standing))

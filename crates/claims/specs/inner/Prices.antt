@@ -20,7 +20,6 @@ use Rattle.claims.specs.inner.StandingOrder.{Claim, claims-through, befo
 use Rattle.claims.specs.inner.Standing.{firstUnmet-lt, firstUnmet-first}
 use Rattle.claims.specs.inner.SizeClaims.{oneEach}
 use Rattle.apportionment.specs.inner.Tests.{cond-both}
-use Rattle.claims.specs.inner.Every.{}
 use Rattle.claims.specs.inner.SizeShape.{le-or-lt}
 use Rattle.claims.specs.inner.Allotments.{Allotment}
 use Rattle.claims.specs.inner.StandingMoves.{le-same-sum}
@@ -62,7 +61,8 @@ sums-priced u v (suc n) f g x y s h =
     omega (
       arith,
       h 0 (omega arith),
-      sums-priced u v n (λ i. f (suc i)) (λ i. g (suc i)) (λ i. x (suc i)) (λ i. y (suc i)) (λ i. s (suc i)) (λ i lt. h (suc i) (omega arith)),
+      sums-priced u v n (λ i. f (suc i)) (λ i. g (suc i)) (λ i. x (suc i)) (λ i. y (suc i)) (λ i. s (suc i))
+          (λ i lt. h (suc i) (omega arith)),
     )
 
 sum-of-seats : (n : ℕ) (xs : List ℕ) → length xs ≡ n → sumOf (λ (i : ℕ). getD xs i 0) n ≡ sum xs

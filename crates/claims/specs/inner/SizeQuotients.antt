@@ -1,35 +1,28 @@
 -- Leximin's claims by quotients. At or above a state's start no claim falls, and rising claims come in the order of p / (a + 1); below it
 -- every claim falls, and claims come in the order of p / a. So two products part most claims, and sizes only those of equal quotients.
 -- Assumes nothing.
-use mathlib.Core.Path.{_≡_, refl, _∙_}
+use mathlib.Core.Path.{_≡_, _∙_}
 use mathlib.Core.Bool.{Bool, true, false, cond}
-use mathlib.Core.Logic.{⊎-elim}
-use Prim.Native.Nat.{ℕ, suc, _+_, _*_, _<_, _≤_, suc-le-suc, zero-le}
+use Prim.Native.Nat.{ℕ, suc, _+_, _*_, _<_, _≤_}
 use native.Mathlib.Nat.{mul-pos, mul-lt-mul-of-pos-right, mul-le-mul-right, lt-of-mul-lt-mul-right}
-use native.Mathlib.Nat.{le-trans, le-of-lt, lt-suc-self, eq-or-lt-of-le}
-use native.Mathlib.Omega.{arith}
+use native.Mathlib.Omega.{arith, by-contra}
 use native.Mathlib.Numerals.{add-one}
 use lib.Dec.{ltb}
-use borrow.Author.Tests.{lt-ltb, ltb-true, ltb-false}
+use borrow.Author.Tests.{lt-ltb, le-ltb, ltb-true, ltb-false}
+use Rattle.apportionment.specs.inner.Tests.{either-way}
 use Rattle.apportionment.specs.Quantities.{less, distance, sizeOf}
-use Rattle.claims.specs.inner.Fractions.{less-asymmetric}
-use Rattle.claims.specs.inner.SizeClaims.{moveBefore, sizeBefore}
+use Rattle.claims.specs.inner.SizeClaims.{sizedClaimBefore, sizeBefore}
 use Rattle.claims.specs.inner.StartNearest.{nearer, Nearest, nearest-below, nearest-above}
-use Rattle.claims.specs.inner.SizeShape.{le-or-lt, size-falls, size-rises}
+use Rattle.claims.specs.inner.StartSeats.{claims-met-fall, others-do-not-fall}
 
 -- ---- products compared
 
 -- Two tests that hold of the same numbers are the same test.
 same-test : (x y u v : ℕ) → (x < y → u < v) → (u < v → x < y) → ltb x y ≡ ltb u v
-same-test x y u v to from = by-test (ltb x y) refl
-  where
-    by-test : (t : Bool) → ltb x y ≡ t → ltb x y ≡ ltb u v
-    by-test true e = rw e (rw (lt-ltb u v (to (ltb-true x y e))))
-    by-test false e = rw e (by-other (ltb u v) refl)
-      where
-        by-other : (t : Bool) → ltb u v ≡ t → false ≡ ltb u v
-        by-other true f = absurd (omega (arith, ltb-false x y e, from (ltb-true u v f)))
-        by-other false f = rw f
+same-test x y u v to from =
+    either-way (ltb u v)
+    (λ e. rw e (lt-ltb x y (from (ltb-true u v e))))
+    (λ e. rw e (le-ltb x y (by-contra _ _ (λ h. omega (arith, ltb-false u v e, to h)))))
 
 -- Of m without u and n without v: the products with what is left out are compared as those with what is left.
 left-over-test : (x y m n u v : ℕ) → u + x ≡ m → v + y ≡ n → ltb (u * n) (v * m) ≡ ltb (y * m) (x * n)
@@ -84,30 +77,16 @@ module _ (p P H x : ℕ) (y : 0 < p) (z : 0 < P) (w : 0 < H) (n : Nearest p P H 
   pub climbs-from-start : (a : ℕ) → x ≤ a → Climbs p P H a
   climbs-from-start a h =
       record {
-        stays = ⊎-elim above below (le-or-lt (p * H) (a * P));
+        stays = others-do-not-fall p P H x y z w n a h;
         past = omega (arith, nearest-above p P H y z w x n, mul-le-mul-right P h);
       }
-    where
-      above : p * H ≤ a * P → nearer p P H (suc a) a ≡ false
-      above k = less-asymmetric _ _ (size-rises p P H a (suc a) y z w k (lt-suc-self a))
-
-      below : a * P < p * H → nearer p P H (suc a) a ≡ false
-      below k =
-          ⊎-elim (λ e. rw (← e) (n .least (suc x) (suc-le-suc zero-le)))
-          (λ l. cc (n .least a (le-trans (n .some) h), size-falls p P H x a z l (le-of-lt k)))
-          (eq-or-lt-of-le h)
 
   pub falls-to-start : (a : ℕ) → 1 ≤ a → a < x → Falls p P H a
-  falls-to-start a some h = record { nears = ⊎-elim last earlier (eq-or-lt-of-le h); short = omega (arith, few, mul-le-mul-right P h) }
-    where
-      few : x * P < p * H + P
-      few = nearest-below p P H y z w x n
-
-      last : suc a ≡ x → nearer p P H (suc a) a ≡ true
-      last e = rw e (n .fewest a some h)
-
-      earlier : suc a < x → nearer p P H (suc a) a ≡ true
-      earlier l = size-falls p P H a (suc a) z (lt-suc-self a) (omega (arith, few, mul-le-mul-right P l))
+  falls-to-start a some h =
+      record {
+        nears = claims-met-fall p P H x y z w n a some h;
+        short = omega (arith, nearest-below p P H y z w x n, mul-le-mul-right P h);
+      }
 
 -- ---- their order
 
@@ -130,7 +109,7 @@ fallsBefore P H p a q b =
 
 module _ {P H : ℕ} (z : 0 < P) (w : 0 < H) (p a q b : ℕ) where
   pub climbs-by-quotient : Climbs p P H a → Climbs q P H b → sizeBefore P H p a q b ≡ climbsBefore P H p a q b
-  unfolding sizeBefore moveBefore climbsBefore risesBefore
+  unfolding sizeBefore sizedClaimBefore climbsBefore risesBefore
   climbs-by-quotient c d =
       simp (
         c .stays,
@@ -141,7 +120,7 @@ module _ {P H : ℕ} (z : 0 < P) (w : 0 < H) (p a q b : ℕ) where
       )
 
   pub falls-by-quotient : Falls p P H a → Falls q P H b → sizeBefore P H p a q b ≡ fallsBefore P H p a q b
-  unfolding sizeBefore moveBefore fallsBefore
+  unfolding sizeBefore sizedClaimBefore fallsBefore
   falls-by-quotient c d =
       simp (
         c .nears,

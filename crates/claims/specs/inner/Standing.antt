@@ -13,6 +13,7 @@ use lib.Dec.{ltb}
 use lib.ListN.{length, getD}
 use Rattle.apportionment.specs.Lists.{sum, listOf}
 use Rattle.apportionment.specs.Divisor.{oneMore}
+use Rattle.apportionment.specs.inner.Tests.{cond-both, either-way}
 use Rattle.claims.specs.inner.Order.{ClaimTest, ClaimOrder, comes, Standing, endsApart}
 use Rattle.claims.specs.inner.Order.{wantsBefore, firstUnmet, placed, placedTimes, givesUpBefore, lastMet, oneLess, withdrawn}
 use Rattle.claims.specs.inner.Order.{withdrawnTimes}
@@ -87,15 +88,11 @@ gives-up lo lt xs i j e = by-test (ltb (lo i) (getD xs i 0)) (ltb (lo j) (getD x
 pub keeps-seat : (lo : ℕ → ℕ) (lt : ClaimTest) (xs : List ℕ) (i j : ℕ) → givesUpBefore lo lt xs i j ≡ false → lo i < getD xs i 0
     → (lo j < getD xs j 0) × (lt i (getD xs i 0 - 1) j (getD xs j 0 - 1) ≡ true)
 unfolding givesUpBefore
-keeps-seat lo lt xs i j e above = by-test (ltb (lo j) (getD xs j 0)) refl (rw (lt-ltb (lo i) (getD xs i 0) above) at e)
-  where
-    earlier : Bool
-    earlier = lt i (getD xs i 0 - 1) j (getD xs j 0 - 1)
-
-    by-test : (u : Bool) → ltb (lo j) (getD xs j 0) ≡ u → cond u (not earlier) true ≡ false
-        → (lo j < getD xs j 0) × (earlier ≡ true)
-    by-test true eu c = (ltb-true (lo j) (getD xs j 0) eu, not-false earlier c)
-    by-test false eu c = absurd (false≢true (sym c))
+keeps-seat lo lt xs i j e above =
+    let kept = rw (lt-ltb (lo i) (getD xs i 0) above) at e in
+    either-way (ltb (lo j) (getD xs j 0))
+    (λ more. (ltb-true (lo j) (getD xs j 0) more, not-false (lt i (getD xs i 0 - 1) j (getD xs j 0 - 1)) (rw more at kept)))
+    (λ none. absurd (false≢true (sym (rw none at kept))))
 
 module _ (n : ℕ) (lo : ℕ → ℕ) (lt : ClaimTest) (order : ClaimOrder n lo lt) where
   -- No state's next claim comes before the first one not met, and that one comes before each earlier state's.
@@ -141,8 +138,8 @@ module _ (n : ℕ) (lo : ℕ → ℕ) (lt : ClaimTest) (order : ClaimOrder n lo 
           let known = gives-up lo lt xs j i e in
           let was = rest above in (
             known .0,
-            claims-through n lo lt order (last j h (known .0)) (last i (omega (arith, ij, h)) (was .0)) (last l (omega (arith, lj, h)) above)
-                (known .1 (was .0)) (was .1),
+            claims-through n lo lt order (last j h (known .0)) (last i (omega (arith, ij, h)) (was .0))
+                (last l (omega (arith, lj, h)) above) (known .1 (was .0)) (was .1),
             λ jl. absurd (omega (arith, jl, lj)),
           )
 
@@ -320,8 +317,8 @@ module _ (n : ℕ) (lo : ℕ → ℕ) (lt : ClaimTest) (order : ClaimOrder n lo 
   sum-withdrawnTimes xs zero some states enough = add-zero (sum xs)
   sum-withdrawnTimes xs (suc k) some states enough =
       let before = sum-withdrawnTimes xs k some states (omega (arith, enough)) in
-      let last = sum-withdrawn (withdrawnTimes lo lt n xs k) some (length-withdrawnTimes n lo lt xs k ∙ states) (omega (arith, enough, before)) in
-      omega (arith, before, last)
+      let long = length-withdrawnTimes n lo lt xs k ∙ states in
+      omega (arith, before, sum-withdrawn (withdrawnTimes lo lt n xs k) some long (omega (arith, enough, before)))
 
   pub withdrawnTimes-standing : (xs : List ℕ) (k : ℕ) → 0 < n → Standing n lo lt xs → sum (listOf lo n) + k ≤ sum xs
       → Standing n lo lt (withdrawnTimes lo lt n xs k)
@@ -364,17 +361,12 @@ module _ (n : ℕ) (lo : ℕ → ℕ) (lt : ClaimTest) (order : ClaimOrder n lo 
   -- And seats that stand pass that test.
   pub standing-ends : (xs : List ℕ) → 0 < n → Standing n lo lt xs → endsApart lo lt n xs ≡ true
   unfolding endsApart
-  standing-ends xs some s = by-test (ltb (lo p) (getD xs p 0)) refl
-    where
-      p : ℕ
-      p = lastMet lo lt n xs
-
-      q : ℕ
-      q = firstUnmet lt n xs
-
-      by-test : (t : Bool) → ltb (lo p) (getD xs p 0) ≡ t → cond t (comes lt p (getD xs p 0 - 1) q (getD xs q 0)) true ≡ true
-      by-test true e =
-          let above : lo p < getD xs p 0 = ltb-true (lo p) (getD xs p 0) e in
-          s .apart p (getD xs p 0 - 1) q (getD xs q 0) (lastMet-lt n lo lt xs some) (omega (arith, above)) (omega (arith, above))
-          (firstUnmet-lt n lt xs some) (le-refl (getD xs q 0))
-      by-test false e = refl
+  standing-ends xs some s =
+      let p = lastMet lo lt n xs in
+      let q = firstUnmet lt n xs in
+      cond-both (λ (b : Bool). b ≡ true) (ltb (lo p) (getD xs p 0)) (comes lt p (getD xs p 0 - 1) q (getD xs q 0)) true
+      (λ e.
+      let above : lo p < getD xs p 0 = ltb-true (lo p) (getD xs p 0) e in
+      s .apart p (getD xs p 0 - 1) q (getD xs q 0) (lastMet-lt n lo lt xs some) (omega (arith, above)) (omega (arith, above))
+      (firstUnmet-lt n lt xs some) (le-refl (getD xs q 0)))
+      (λ _. refl)

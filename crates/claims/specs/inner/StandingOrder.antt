@@ -6,11 +6,11 @@ use mathlib.Core.Logic.{_⊎_, inl, inr, ⊎-elim}
 use mathlib.Core.Bool.{Bool, true, false, cond, false≢true}
 use Prim.Native.Nat.{ℕ, zero, suc, _<_, _≤_}
 use native.Mathlib.Nat.{le-refl, le-step, le-trans, le-of-lt, le-of-suc-le-suc, not-suc-le-zero, eq-or-lt-of-le, lt-irrefl}
-use native.Mathlib.Decide.{decLt}
 use native.Mathlib.Omega.{arith}
 use borrow.Author.Tests.{ltb-true, ltb-false, lt-ltb, le-ltb}
 use lib.Dec.{ltb}
 use Rattle.apportionment.specs.Lists.{firstPlace}
+use Rattle.apportionment.specs.inner.Tests.{cond-both, either-way}
 use Rattle.claims.specs.inner.Order.{ClaimTest, ClaimOrder, comes}
 
 -- ---- tests that are never true both ways and whose failures are passed on
@@ -22,11 +22,7 @@ unless-false false h = absurd (h refl)
 module _ {A : Type 0} (before : A → A → Bool) (asym : (p q : A) → before p q ≡ true → before q p ≡ false)
     (through : (p q r : A) → before p q ≡ false → before q r ≡ false → before p r ≡ false) where
   irreflexive : (p : A) → before p p ≡ false
-  irreflexive p = by-test (before p p) refl
-    where
-      by-test : (t : Bool) → before p p ≡ t → before p p ≡ false
-      by-test true e = asym p p e
-      by-test false e = e
+  irreflexive p = either-way (before p p) (asym p p) (λ e. e)
 
   -- p comes before q, and r does not: so p comes before r.
   before-what-is-not : (p q r : A) → before p q ≡ true → before r q ≡ false → before p r ≡ true
@@ -41,11 +37,9 @@ module _ {A : Type 0} (before : A → A → Bool) (asym : (p q : A) → before p
 pub firstPlace-le : (before : ℕ → ℕ → Bool) (k : ℕ) → firstPlace before k ≤ k
 unfolding firstPlace
 firstPlace-le before zero = le-refl 0
-firstPlace-le before (suc k) = by-test (before (suc k) (firstPlace before k)) (firstPlace-le before k)
-  where
-    by-test : (t : Bool) {best : ℕ} → best ≤ k → cond t (suc k) best ≤ suc k
-    by-test true h = le-refl (suc k)
-    by-test false h = le-step h
+firstPlace-le before (suc k) =
+    cond-both (λ (best : ℕ). best ≤ suc k) (before (suc k) (firstPlace before k)) (suc k) (firstPlace before k)
+    (λ _. le-refl (suc k)) (λ _. le-step (firstPlace-le before k))
 
 -- Whatever holds of a place and itself, of a place and an earlier one that it does not come before, and still holds when a later place
 -- takes over, holds of every place and the place picked.
@@ -60,21 +54,18 @@ firstPlace-holds before holds zero same keeps takes l h = subst (λ m. holds m 0
     only : l ≤ 0 → 0 ≡ l
     only b = omega arith
 firstPlace-holds before holds (suc k) same keeps takes l h =
-    by-test (before (suc k) best) refl (eq-or-lt-of-le h) (λ below. firstPlace-holds before holds k
+    let best = firstPlace before k in
+    let earlier : best < suc k = omega (arith, firstPlace-le before k) in
+    let rest : l < suc k → holds l best =
+    λ below. firstPlace-holds before holds k
     (λ i b. same i (le-step b)) (λ i j ij b. keeps i j ij (le-step b)) (λ l′ i j lj ij b. takes l′ i j lj ij (le-step b))
-    l (le-of-suc-le-suc below))
-  where
-    best : ℕ
-    best = firstPlace before k
-
-    earlier : best < suc k
-    earlier = omega (arith, firstPlace-le before k)
-
-    by-test : (t : Bool) → before (suc k) best ≡ t → (l ≡ suc k) ⊎ (l < suc k) → (l < suc k → holds l best) → holds l (cond t (suc k) best)
-    by-test true e (inl last) rest = subst (λ m. holds m (suc k)) (sym last) (same (suc k) (le-refl (suc k)))
-    by-test true e (inr below) rest = takes l best (suc k) below earlier (le-refl (suc k)) e (rest below)
-    by-test false e (inl last) rest = subst (λ m. holds m best) (sym last) (keeps best (suc k) earlier (le-refl (suc k)) e)
-    by-test false e (inr below) rest = rest below
+    l (le-of-suc-le-suc below) in
+    cond-both (holds l) (before (suc k) best) (suc k) best
+    (λ e. ⊎-elim
+    (λ last. subst (λ m. holds m (suc k)) (sym last) (same (suc k) (le-refl (suc k))))
+    (λ below. takes l best (suc k) below earlier (le-refl (suc k)) e (rest below)) (eq-or-lt-of-le h))
+    (λ e. ⊎-elim
+    (λ last. subst (λ m. holds m best) (sym last) (keeps best (suc k) earlier (le-refl (suc k)) e)) rest (eq-or-lt-of-le h))
 
 -- Under a test that is never true both ways and whose failures are passed on, no place comes before the place picked, and it comes before
 -- each earlier place.
@@ -143,11 +134,7 @@ comes-by-value lt i a j b e = rw e refl
 
 pub comes-by-state : (lt : ClaimTest) (i a j b : ℕ) → lt j b i a ≡ false → i < j → comes lt i a j b ≡ true
 unfolding comes
-comes-by-state lt i a j b e h = by-test (lt i a j b)
-  where
-    by-test : (t : Bool) → cond t true (cond (lt j b i a) false (ltb i j)) ≡ true
-    by-test true = refl
-    by-test false = rw (e, lt-ltb i j h) refl
+comes-by-state lt i a j b e h = either-way (lt i a j b) (λ before. rw before) (λ after. rw (after, e, lt-ltb i j h))
 
 not-comes-by-value : (lt : ClaimTest) (i a j b : ℕ) → lt i a j b ≡ false → lt j b i a ≡ true → comes lt i a j b ≡ false
 unfolding comes
@@ -155,19 +142,14 @@ not-comes-by-value lt i a j b e h = rw (e, h) refl
 
 not-comes-by-state : (lt : ClaimTest) (i a j b : ℕ) → lt i a j b ≡ false → j ≤ i → comes lt i a j b ≡ false
 unfolding comes
-not-comes-by-state lt i a j b e h = rw e (by-test (lt j b i a))
-  where
-    by-test : (t : Bool) → cond t false (ltb i j) ≡ false
-    by-test true = refl
-    by-test false = le-ltb i j h
+not-comes-by-state lt i a j b e h = either-way (lt j b i a) (λ before. rw (e, before)) (λ after. rw (e, after, le-ltb i j h))
 
 -- (i, a) does not come before (j, b) where its value does not and, if its state is earlier, the other's value does.
 pub not-comes : (lt : ClaimTest) (i a j b : ℕ) → lt i a j b ≡ false → (i < j → lt j b i a ≡ true) → comes lt i a j b ≡ false
-not-comes lt i a j b e h = by-place (decLt i j)
-  where
-    by-place : Dec (i < j) → comes lt i a j b ≡ false
-    by-place (yes earlier) = not-comes-by-value lt i a j b e (h earlier)
-    by-place (no later) = not-comes-by-state lt i a j b e (omega (arith, later))
+not-comes lt i a j b e h =
+    either-way (ltb i j)
+    (λ earlier. not-comes-by-value lt i a j b e (h (ltb-true i j earlier)))
+    (λ later. not-comes-by-state lt i a j b e (ltb-false i j later))
 
 -- Of the claims of two states one comes before the other.
 pub comes-otherwise : (lt : ClaimTest) (i a j b : ℕ) → comes lt i a j b ≡ false → (i ≡ j → ⊥) → comes lt j b i a ≡ true
@@ -209,13 +191,12 @@ module _ (n : ℕ) (lo : ℕ → ℕ) (lt : ClaimTest) (order : ClaimOrder n lo 
   -- A state's claims come in turn, also those further on.
   pub rises-far : (i a b : ℕ) → i < n → lo i ≤ a → a < b → lt i a i b ≡ true
   rises-far i a zero hi la h = absurd (not-suc-le-zero h)
-  rises-far i a (suc b) hi la h = by-place (eq-or-lt-of-le (le-of-suc-le-suc h)) (rises-far i a b hi la)
-    where
-      by-place : (a ≡ b) ⊎ (a < b) → (a < b → lt i a i b ≡ true) → lt i a i (suc b) ≡ true
-      by-place (inl e) rest = rw (← e) (order .rises i a hi la)
-      by-place (inr below) rest =
-          let lb : lo i ≤ b = omega (arith, la, below) in
-          claims-trans (i, a, hi, la) (i, b, hi, lb) (i, suc b, hi, le-step lb) (rest below) (order .rises i b hi lb)
+  rises-far i a (suc b) hi la h =
+      ⊎-elim (λ e. rw (← e) (order .rises i a hi la))
+      (λ below.
+      let lb : lo i ≤ b = omega (arith, la, below) in
+      claims-trans (i, a, hi, la) (i, b, hi, lb) (i, suc b, hi, le-step lb) (rises-far i a b hi la below) (order .rises i b hi lb))
+      (eq-or-lt-of-le (le-of-suc-le-suc h))
 
   -- A state's later claim does not come before an earlier one.
   pub never-falls : (i a b : ℕ) → i < n → lo i ≤ a → a ≤ b → lt i b i a ≡ false

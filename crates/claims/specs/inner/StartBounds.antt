@@ -13,7 +13,7 @@ use Rattle.apportionment.specs.Quantities.{distance}
 use Rattle.apportionment.specs.Leximin.{nearest, startSeats, startTotal, gap}
 use Rattle.claims.specs.inner.Order.{ClaimTest, Standing}
 use Rattle.claims.specs.inner.StandingMoves.{sum-le}
-use Rattle.claims.specs.inner.SizeClaims.{oneEach, Sound}
+use Rattle.claims.specs.inner.SizeClaims.{oneEach, Positive}
 use Rattle.claims.specs.inner.SizeOrder.{people}
 use Rattle.claims.specs.inner.StartNearest.{nearest-below, nearest-above}
 use Rattle.claims.specs.inner.StartSeats.{state-nearest, start-standing}
@@ -44,7 +44,7 @@ states-at-most-standing {n} {xs = xs} t =
 
 -- ---- the starting total
 
-module _ {ps : List ℕ} {H : ℕ} (s : Sound ps H) where
+module _ {ps : List ℕ} {H : ℕ} (s : Positive ps H) where
   pub start-below : startTotal ps H < H + length ps
   unfolding startTotal startSeats
   start-below =

@@ -1,9 +1,9 @@
 -- A state's nearest seats. No seats are nearer and fewer seats are less near; they are less than one away from p H / P, and so they are
 -- the whole part of p H / P or one more, which is how they are worked out.
 -- Assumes nothing.
-use mathlib.Core.Path.{_≡_, refl}
+use mathlib.Core.Path.{_≡_}
 use mathlib.Core.Bool.{Bool, true, false, cond, false≢true}
-use mathlib.Core.Logic.{⊎-elim}
+use mathlib.Core.Logic.{_⊎_, ⊎-elim}
 use Prim.Native.Nat.{ℕ, zero, suc, _+_, _*_, _/_, _<_, _≤_, suc-le-suc, zero-le}
 use native.Mathlib.Nat.{mul-pos, mul-le-mul-right, lt-of-mul-lt-mul-right, le-refl, lt-suc-self, le-antisymm, le-of-suc-le-suc}
 use native.Mathlib.Nat.{not-suc-le-zero, pos-of-ne-zero, div-mul-le-self, lt-div-mul-add, eq-or-lt-of-le}
@@ -11,6 +11,7 @@ use native.Mathlib.Omega.{arith, by-contra}
 use native.Mathlib.Numerals.{add-one}
 use lib.Dec.{eqb}
 use borrow.Author.Tests.{eqb-true, eqb-false}
+use Rattle.apportionment.specs.inner.Tests.{cond-both}
 use Rattle.apportionment.specs.Quantities.{less, sizeOf}
 use Rattle.apportionment.specs.Leximin.{nearestUpTo, nearest}
 use Rattle.claims.specs.inner.Fractions.{less-irreflexive, less-asymmetric, not-less-through, less-of-less-of-not}
@@ -36,31 +37,30 @@ record NearestUpTo (p P H k a : ℕ) : Type 0 where
 module _ (p P H : ℕ) (peopled : 0 < p) (people : 0 < P) (seated : 0 < H) where
   -- ---- the definition gives nearest seats
 
-  one-more-tried : (k a : ℕ) → NearestUpTo p P H k a → (t : Bool) → nearer p P H (suc k) a ≡ t
-      → NearestUpTo p P H (suc k) (cond t (suc k) a)
-  one-more-tried k a n true e =
+  -- One more seat tried: it takes over where it is nearer, and else the nearest stay.
+  one-more-tried : (k a : ℕ) → NearestUpTo p P H k a → NearestUpTo p P H (suc k) (cond (nearer p P H (suc k) a) (suc k) a)
+  one-more-tried k a n =
+      cond-both (NearestUpTo p P H (suc k)) (nearer p P H (suc k) a) (suc k) a
+      (λ e.
+      let closer : (b : ℕ) → 1 ≤ b → b ≤ k → nearer p P H (suc k) b ≡ true =
+      λ b h q. less-of-less-of-not _ (sizeOf p a P H) _ (size-positive p b P H people h) e (n .least b h q) in
       record {
         some = suc-le-suc zero-le;
         least = λ b h q.
             ⊎-elim (λ i. rw i (less-irreflexive _)) (λ i. less-asymmetric _ _ (closer b h (le-of-suc-le-suc i))) (eq-or-lt-of-le q);
         fewest = λ b h q. closer b h (le-of-suc-le-suc q);
-      }
-    where
-      closer : (b : ℕ) → 1 ≤ b → b ≤ k → nearer p P H (suc k) b ≡ true
-      closer b h q = less-of-less-of-not _ (sizeOf p a P H) _ (size-positive p b P H people h) e (n .least b h q)
-  one-more-tried k a n false e =
-      record {
+      })
+      (λ e. record {
         some = n .some;
         least = λ b h q. ⊎-elim (λ i. rw i e) (λ i. n .least b h (le-of-suc-le-suc i)) (eq-or-lt-of-le q);
         fewest = n .fewest;
-      }
+      })
 
   nearest-up-to : (k : ℕ) → NearestUpTo p P H k (nearestUpTo p P H k)
   unfolding nearestUpTo
   nearest-up-to zero =
       record { some = le-refl 1; least = λ b h q. absurd (omega arith); fewest = λ b h q. absurd (omega arith) }
-  nearest-up-to (suc k) =
-      one-more-tried k (nearestUpTo p P H k) (nearest-up-to k) (nearer p P H (suc k) (nearestUpTo p P H k)) refl
+  nearest-up-to (suc k) = one-more-tried k (nearestUpTo p P H k) (nearest-up-to k)
 
   -- More than H seats are less near than H, as a population is at most P.
   beyond-house : p ≤ P → (b : ℕ) → H < b → nearer p P H b H ≡ false
@@ -94,8 +94,9 @@ module _ (p P H : ℕ) (peopled : 0 < p) (people : 0 < P) (seated : 0 < H) where
   nearest-below (suc zero) n = omega (arith, mul-pos peopled seated)
   nearest-below (suc (suc b)) n =
       by-contra _ _
-      (λ h. false≢true
-      (cc (n .least (suc b) (suc-le-suc zero-le), size-rises p P H (suc b) (suc (suc b)) peopled people seated (omega arith) (lt-suc-self _))))
+      (λ h.
+      let farther = size-rises p P H (suc b) (suc (suc b)) peopled people seated (omega arith) (lt-suc-self _) in
+      false≢true (cc (n .least (suc b) (suc-le-suc zero-le))))
 
   pub nearest-above : (a : ℕ) → Nearest p P H a → p * H < a * P + P
   nearest-above a n =
@@ -111,24 +112,23 @@ module _ (p P H : ℕ) (peopled : 0 < p) (people : 0 < P) (seated : 0 < H) where
     at-most-one-more : a ≤ suc v
     at-most-one-more = le-of-suc-le-suc (lt-of-mul-lt-mul-right P (omega (arith, nearest-below a n)))
 
-    one-or-more : 1 ≤ v → (t : Bool) → nearer p P H (suc v) v ≡ t → cond t (suc v) v ≡ a
-    one-or-more h t e = ⊎-elim (whole t e) (more t e) (eq-or-lt-of-le at-least-whole)
+    one-or-more : 1 ≤ v → cond (nearer p P H (suc v) v) (suc v) v ≡ a
+    one-or-more h =
+        cond-both (λ (x : ℕ). x ≡ a) (nearer p P H (suc v) v) (suc v) v
+        (λ e. ⊎-elim (λ i. cc (n .least (suc v) (suc-le-suc zero-le), e, i)) (λ i. le-antisymm i at-most-one-more) whole-or-more)
+        (λ e. ⊎-elim (λ i. i) (λ i. cc (n .fewest v h i, le-antisymm i at-most-one-more, e)) whole-or-more)
       where
-        whole : (t : Bool) → nearer p P H (suc v) v ≡ t → v ≡ a → cond t (suc v) v ≡ a
-        whole true e i = cc (n .least (suc v) (suc-le-suc zero-le))
-        whole false e i = i
+        whole-or-more : (v ≡ a) ⊎ (v < a)
+        whole-or-more = eq-or-lt-of-le at-least-whole
 
-        more : (t : Bool) → nearer p P H (suc v) v ≡ t → v < a → cond t (suc v) v ≡ a
-        more true e i = le-antisymm i at-most-one-more
-        more false e i = cc (n .fewest v h i, le-antisymm i at-most-one-more)
-
-    rounded-is : (t : Bool) → eqb v 0 ≡ t → cond t 1 (cond (nearer p P H (v + 1) v) (v + 1) v) ≡ a
-    rounded-is true e = le-antisymm (n .some) (omega (arith, at-most-one-more, eqb-true v 0 e))
-    rounded-is false e = rw add-one (one-or-more (pos-of-ne-zero (eqb-false v 0 e)) (nearer p P H (suc v) v) refl)
+    rounded-is : cond (eqb v 0) 1 (cond (nearer p P H (v + 1) v) (v + 1) v) ≡ a
+    rounded-is =
+        cond-both (λ (x : ℕ). x ≡ a) (eqb v 0) 1 (cond (nearer p P H (v + 1) v) (v + 1) v)
+        (λ e. le-antisymm (n .some) (omega (arith, at-most-one-more, eqb-true v 0 e)))
+        (λ e. rw add-one (one-or-more (pos-of-ne-zero (eqb-false v 0 e))))
 
   -- Rounding gives the nearest seats.
   pub nearest-rounded : p ≤ P → nearestRounded p P H ≡ nearest p P H
   unfolding nearestRounded
   nearest-rounded l =
-      let v = p * H / P in
-      rounded-is v (nearest p P H) (div-mul-le-self (p * H) P) (omega (arith, lt-div-mul-add {a = p * H} people)) (nearest-law l) (eqb v 0) refl
+      rounded-is (p * H / P) (nearest p P H) (div-mul-le-self (p * H) P) (omega (arith, lt-div-mul-add {a = p * H} people)) (nearest-law l)

@@ -14,7 +14,7 @@ use Rattle.apportionment.specs.Leximin.{nearest, startSeats}
 use Rattle.claims.specs.inner.Order.{Standing}
 use Rattle.claims.specs.inner.StandingOrder.{comes-by-value}
 use Rattle.claims.specs.inner.Fractions.{less-asymmetric}
-use Rattle.claims.specs.inner.SizeClaims.{moveBefore, sizeBefore, sizeTest, oneEach, Sound}
+use Rattle.claims.specs.inner.SizeClaims.{sizedClaimBefore, sizeBefore, sizeTest, oneEach, Positive}
 use Rattle.claims.specs.inner.SizeShape.{le-or-lt, size-falls, size-rises}
 use Rattle.claims.specs.inner.SizeOrder.{people}
 use Rattle.claims.specs.inner.StartNearest.{nearer, Nearest, nearest-law}
@@ -22,7 +22,7 @@ use Rattle.claims.specs.inner.StartNearest.{nearer, Nearest, nearest-law
 -- ---- one state with x seats, its nearest
 
 module _ (p P H x : ℕ) (y : 0 < p) (z : 0 < P) (w : 0 < H) (n : Nearest p P H x) where
-  claims-met-fall : (a : ℕ) → 1 ≤ a → a < x → nearer p P H (suc a) a ≡ true
+  pub claims-met-fall : (a : ℕ) → 1 ≤ a → a < x → nearer p P H (suc a) a ≡ true
   claims-met-fall a h k = ⊎-elim last earlier (eq-or-lt-of-le k)
     where
       last : suc a ≡ x → nearer p P H (suc a) a ≡ true
@@ -34,7 +34,7 @@ module _ (p P H x : ℕ) (y : 0 < p) (z : 0 < P) (w : 0 < H) (n : Nearest p P H 
           (λ q. cc (n .least (suc a) (suc-le-suc zero-le), size-rises p P H (suc a) x y z w (le-of-lt q) l))
           (le-or-lt (suc a * P) (p * H))
 
-  others-do-not-fall : (b : ℕ) → x ≤ b → nearer p P H (suc b) b ≡ false
+  pub others-do-not-fall : (b : ℕ) → x ≤ b → nearer p P H (suc b) b ≡ false
   others-do-not-fall b k = ⊎-elim next later (eq-or-lt-of-le k)
     where
       next : x ≡ b → nearer p P H (suc b) b ≡ false
@@ -47,8 +47,8 @@ module _ (p P H x : ℕ) (y : 0 < p) (z : 0 < P) (w : 0 < H) (n : Nearest p P H 
           (le-or-lt (p * H) (b * P))
 
 -- A claim that falls comes before one that does not.
-falls-before : (s t s′ t′ : Fraction) → less t s ≡ true → less t′ s′ ≡ false → moveBefore s t s′ t′ ≡ true
-unfolding moveBefore
+falls-before : (s t s′ t′ : Fraction) → less t s ≡ true → less t′ s′ ≡ false → sizedClaimBefore s t s′ t′ ≡ true
+unfolding sizedClaimBefore
 falls-before s t s′ t′ e f = rw (e, f)
 
 -- ---- all states
@@ -61,7 +61,7 @@ pub start-at : (ps : List ℕ) (H i : ℕ) → i < length ps → getD (startSeat
 unfolding startSeats
 start-at ps H i h = getD-map _ ps i h
 
-module _ {ps : List ℕ} {H : ℕ} (s : Sound ps H) where
+module _ {ps : List ℕ} {H : ℕ} (s : Positive ps H) where
   pub state-nearest : (i : ℕ) → i < length ps → Nearest (getD ps i 0) (sum ps) H (nearest (getD ps i 0) (sum ps) H)
   state-nearest i h =
       nearest-law (getD ps i 0) (sum ps) H (s .peopled i h) (people s) (s .someSeat) (entry-at-most-sum ps i)

@@ -1,17 +1,18 @@
 -- A tournament among n places, for any order of them: leaf n + i holds place i, each inner place k the better of those at 2k and 2k + 1.
 -- The place at its root is the one that a scan picks. TournamentReplay has how it is built, and replayed after a move.
 -- Assumes nothing.
-use mathlib.Core.Path.{_≡_, refl, sym, _∙_, subst}
+use mathlib.Core.Path.{_≡_, sym, _∙_, subst}
 use mathlib.Core.Logic.{_⊎_, inl, inr, ⊎-elim}
 use mathlib.Core.Bool.{Bool, true, false, cond, false≢true}
 use mathlib.Core.List.{List}
 use Prim.Native.Nat.{ℕ, zero, suc, _+_, _*_, _-_, _/_, _<_, _≤_}
-use native.Mathlib.Decide.{decLt, ℕ-discrete}
+use native.Mathlib.Decide.{decLt}
 use native.Mathlib.Omega.{arith}
-use borrow.Author.Tests.{lt-ltb, le-ltb}
-use lib.Dec.{ltb}
+use borrow.Author.Tests.{lt-ltb, le-ltb, ltb-true, ltb-false, eqb-true, eqb-false}
+use lib.Dec.{ltb, eqb}
 use lib.ListN.{length, getD}
 use Rattle.apportionment.specs.Lists.{firstPlace}
+use Rattle.apportionment.specs.inner.Tests.{either-way}
 use Rattle.claims.specs.inner.StandingOrder.{firstPlace-le, firstPlace-holds}
 
 -- ---- what a tournament is
@@ -65,32 +66,24 @@ module _ (before : ℕ → ℕ → Bool) where
 
   pub better-is-one : (a b : ℕ) → (better before a b ≡ a) ⊎ (better before a b ≡ b)
   unfolding better
-  better-is-one a b = by-test (ltb a b) (before b a) (before a b)
-    where
-      by-test : (s t u : Bool)
-          → (cond s (cond t b a) (cond u a b) ≡ a) ⊎ (cond s (cond t b a) (cond u a b) ≡ b)
-      by-test true true u = inr refl
-      by-test true false u = inl refl
-      by-test false t true = inl refl
-      by-test false t false = inr refl
+  better-is-one a b =
+      either-way (ltb a b)
+      (λ s. either-way (before b a) (λ t. inr (rw (s, t))) (λ t. inl (rw (s, t))))
+      (λ s. either-way (before a b) (λ t. inl (rw (s, t))) (λ t. inr (rw (s, t))))
 
   -- a holds its own against b.
   abbrev Over : ℕ → ℕ → Type 0
   Over a b = better before a b ≡ a
 
   earlier-over : {a b : ℕ} → a < b → Over a b → before b a ≡ false
-  earlier-over {a} {b} l e = by-test (before b a) refl (sym (better-of-earlier l) ∙ e)
-    where
-      by-test : (t : Bool) → before b a ≡ t → cond t b a ≡ a → before b a ≡ false
-      by-test true h same = absurd (omega (arith, same, l))
-      by-test false h same = h
+  earlier-over {a} {b} l e =
+      let same = sym (better-of-earlier l) ∙ e in
+      either-way (before b a) (λ takes. absurd (omega (arith, rw takes at same, l))) (λ stays. stays)
 
   later-over : {a b : ℕ} → b < a → Over a b → before a b ≡ true
-  later-over {a} {b} l e = by-test (before a b) refl (sym (better-of-later (omega arith)) ∙ e)
-    where
-      by-test : (t : Bool) → before a b ≡ t → cond t a b ≡ a → before a b ≡ true
-      by-test true h same = h
-      by-test false h same = absurd (omega (arith, same, l))
+  later-over {a} {b} l e =
+      let same = sym (better-of-later (omega arith)) ∙ e in
+      either-way (before a b) (λ takes. takes) (λ stays. absurd (omega (arith, rw stays at same, l)))
 
   over-both-ways : {a b : ℕ} → Over a b → Over b a → a ≡ b
   over-both-ways {a} {b} ab ba = sym ab ∙ better-either-way a b ∙ ba
@@ -153,15 +146,16 @@ from-the-leaves n P leaf step x some within = down (2 * n) x (omega arith) some 
   where
     down : (far x : ℕ) → 2 * n ≤ x + far → 0 < x → x < 2 * n → P x
     down zero x left some within = absurd (omega arith)
-    down (suc far) x left some within = by-place (decLt x n) (down far)
-      where
-        by-place : Dec (x < n) → ((y : ℕ) → 2 * n ≤ y + far → 0 < y → y < 2 * n → P y) → P x
-        by-place (yes l) rest =
-            step x some l (rest (2 * x) (omega arith) (omega arith) (omega arith))
-            (rest (2 * x + 1) (omega arith) (omega arith) (omega arith))
-        by-place (no h) rest =
-            let e : n + (x - n) ≡ x = omega (arith, h) in
-            subst P e (leaf (x - n) (omega (arith, h)))
+    down (suc far) x left some within =
+        either-way (ltb x n)
+        (λ t.
+        let l = ltb-true x n t in
+        step x some l (down far (2 * x) (omega arith) (omega arith) (omega (arith, l)))
+        (down far (2 * x + 1) (omega arith) (omega arith) (omega (arith, l))))
+        (λ t.
+        let h = ltb-false x n t in
+        let e : n + (x - n) ≡ x = omega (arith, h) in
+        subst P e (leaf (x - n) (omega (arith, h))))
 
 pub halved : (k : ℕ) → 2 * k / 2 ≡ k
 halved k = omega arith
@@ -171,11 +165,8 @@ halved-too k = omega arith
 
 -- A place is the first or the second of those that its half decides between.
 pub half-of : (x : ℕ) → (x ≡ 2 * (x / 2)) ⊎ (x ≡ 2 * (x / 2) + 1)
-half-of x = by-place (ℕ-discrete x (2 * (x / 2)))
-  where
-    by-place : Dec (x ≡ 2 * (x / 2)) → (x ≡ 2 * (x / 2)) ⊎ (x ≡ 2 * (x / 2) + 1)
-    by-place (yes e) = inl e
-    by-place (no h) = inr (omega arith)
+half-of x =
+    either-way (eqb x (2 * (x / 2))) (λ e. inl (eqb-true x (2 * (x / 2)) e)) (λ e. inr (omega (arith, eqb-false x (2 * (x / 2)) e)))
 
 -- A right place holds one of the n places, if with a place its half is due.
 pub right-lt : {due : ℕ → Type 0} {before : ℕ → ℕ → Bool} {n : ℕ} {t : List ℕ} → Except due before n t
@@ -206,14 +197,13 @@ module _ {before : ℕ → ℕ → Bool} {n : ℕ} {t : List ℕ} (w : Winners b
 
   root-over : Passes n before → (far x : ℕ) → x ≤ far → 0 < x → x < 2 * n → Over before (getD t 1 0) (getD t x 0)
   root-over passes zero x near some within = absurd (omega arith)
-  root-over passes (suc far) x near some within = by-place (ℕ-discrete x 1) (root-over passes far (x / 2))
-    where
-      by-place : Dec (x ≡ 1) → (x / 2 ≤ far → 0 < x / 2 → x / 2 < 2 * n → Over before (getD t 1 0) (getD t (x / 2) 0))
-          → Over before (getD t 1 0) (getD t x 0)
-      by-place (yes e) rest = rw e (better-itself before (getD t 1 0))
-      by-place (no e) rest =
-          over-through before passes (winner-lt 1 (omega arith) (omega arith)) (winner-lt (x / 2) (omega arith) (omega arith))
-          (winner-lt x some within) (rest (omega arith) (omega arith) (omega arith)) (half-over x (omega arith) within)
+  root-over passes (suc far) x near some within =
+      either-way (eqb x 1)
+      (λ e. rw (eqb-true x 1 e) (better-itself before (getD t 1 0)))
+      (λ e.
+      let past : 1 < x = omega (arith, eqb-false x 1 e) in
+      over-through before passes (winner-lt 1 (omega arith) (omega arith)) (winner-lt (x / 2) (omega arith) (omega arith))
+      (winner-lt x some within) (root-over passes far (x / 2) (omega arith) (omega arith) (omega arith)) (half-over x past within))
 
   -- The root is the place that a scan picks.
   pub root-is-first : Passes n before → 0 < n → getD t 1 0 ≡ firstPlace before (n - 1)

@@ -2,15 +2,15 @@
 -- bear on no other states' order.
 -- Assumes nothing.
 use mathlib.Core.Path.{_≡_}
-use mathlib.Core.Bool.{true, false, cond, not}
+use mathlib.Core.Bool.{true, false}
 use mathlib.Core.List.{List}
 use Prim.Native.Nat.{ℕ, _-_, _<_, _≤_}
-use native.Mathlib.Decide.{decLt}
 use native.Mathlib.Omega.{arith}
-use borrow.Author.Tests.{lt-ltb, le-ltb}
+use borrow.Author.Tests.{lt-ltb, ltb-true}
 use lib.Dec.{ltb}
 use lib.ListN.{getD, set}
 use lib.Seq.{getD-set-other}
+use Rattle.apportionment.specs.inner.Tests.{either-way}
 use Rattle.claims.specs.inner.Order.{ClaimTest, ClaimOrder, wantsBefore, givesUpBefore}
 use Rattle.claims.specs.inner.StandingOrder.{Claim, claims-through, claims-trans}
 use Rattle.claims.specs.inner.Standing.{gives-up, keeps-seat}
@@ -21,25 +21,20 @@ use Rattle.claims.specs.inner.TournamentReplay.{AgreeBut}
 gives-up-where : (lo : ℕ → ℕ) (lt : ClaimTest) (xs : List ℕ) (i j : ℕ) → lo i < getD xs i 0
     → (lo j < getD xs j 0 → lt i (getD xs i 0 - 1) j (getD xs j 0 - 1) ≡ false) → givesUpBefore lo lt xs i j ≡ true
 unfolding givesUpBefore
-gives-up-where lo lt xs i j h rest = rw (lt-ltb (lo i) (getD xs i 0) h) (by-place (decLt (lo j) (getD xs j 0)))
-  where
-    by-place : Dec (lo j < getD xs j 0)
-        → cond (ltb (lo j) (getD xs j 0)) (not (lt i (getD xs i 0 - 1) j (getD xs j 0 - 1))) true ≡ true
-    by-place (yes l) = rw (lt-ltb (lo j) (getD xs j 0) l, rest l)
-    by-place (no l) = rw (le-ltb (lo j) (getD xs j 0) (omega (arith, l)))
+gives-up-where lo lt xs i j h rest =
+    either-way (ltb (lo j) (getD xs j 0))
+    (λ more. rw (lt-ltb (lo i) (getD xs i 0) h, more, rest (ltb-true (lo j) (getD xs j 0) more)))
+    (λ none. rw (lt-ltb (lo i) (getD xs i 0) h, none))
 
 -- It does not where, if it is above its fewest, j is too and i's last claim comes first.
 keeps-seat-where : (lo : ℕ → ℕ) (lt : ClaimTest) (xs : List ℕ) (i j : ℕ)
     → (lo i < getD xs i 0 → (lo j < getD xs j 0) × (lt i (getD xs i 0 - 1) j (getD xs j 0 - 1) ≡ true))
     → givesUpBefore lo lt xs i j ≡ false
 unfolding givesUpBefore
-keeps-seat-where lo lt xs i j rest = by-place (decLt (lo i) (getD xs i 0))
-  where
-    by-place : Dec (lo i < getD xs i 0)
-        → cond (ltb (lo i) (getD xs i 0))
-        (cond (ltb (lo j) (getD xs j 0)) (not (lt i (getD xs i 0 - 1) j (getD xs j 0 - 1))) true) false ≡ false
-    by-place (yes l) = rw (lt-ltb (lo i) (getD xs i 0) l, lt-ltb (lo j) (getD xs j 0) (rest l .0), rest l .1)
-    by-place (no l) = rw (le-ltb (lo i) (getD xs i 0) (omega (arith, l)))
+keeps-seat-where lo lt xs i j rest =
+    either-way (ltb (lo i) (getD xs i 0))
+    (λ more. let kept = rest (ltb-true (lo i) (getD xs i 0) more) in rw (more, lt-ltb (lo j) (getD xs j 0) (kept .0), kept .1))
+    (λ none. rw none)
 
 module _ {n : ℕ} {lo : ℕ → ℕ} {lt : ClaimTest} (order : ClaimOrder n lo lt) (xs : List ℕ) where
   -- Placing.

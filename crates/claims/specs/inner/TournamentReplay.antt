@@ -1,5 +1,5 @@
 -- A tournament is built, and replayed after a move, by deciding one inner place after another: from the last place to the first, or up
--- from the leaf of the one place whose standing changed.
+-- from the leaf of the one place that changed.
 -- Assumes nothing.
 use mathlib.Core.Path.{_≡_, refl, sym, ap, _∙_, subst}
 use mathlib.Core.Logic.{_≢_, _⊎_, inl, inr, ⊎-elim}
@@ -226,7 +226,7 @@ unfolding better
 better-agrees before after a b e h = rw (e, h)
 
 module _ {before after : ℕ → ℕ → Bool} {n : ℕ} {t : List ℕ} where
-  -- Where one place's standing changed, only the way up from its leaf is due.
+  -- Where one place changed, only the way up from its leaf is due.
   pub replaying-start : Winners before n t → (j : ℕ) → AgreeBut j before after → Replaying after n ((n + j) / 2) t
   replaying-start w j agree =
       record {

@@ -18,7 +18,7 @@ use Rattle.apportionment.specs.Leximin.{insert, largestFirst, listLess}
 use Rattle.claims.specs.inner.Fractions.{less-true, less-false}
 use Rattle.apportionment.specs.inner.Tests.{cond-both}
 use Rattle.claims.specs.inner.Every.{Every, every-implied}
-use Rattle.claims.specs.inner.SizeClaims.{moveBefore}
+use Rattle.claims.specs.inner.SizeClaims.{sizedClaimBefore}
 
 -- ---- a common denominator
 
@@ -336,9 +336,9 @@ module _ (O : Fraction → Type 0) (w : Fraction → ℕ) (weighing : Weighing 3
       (λ r′. omega (arith, weighing .positive old′, weighing .lighter oo′ on′ r′, weighing .noLighter oo on r))
       (λ r′. omega (arith, weighing .noLighter oo′ on′ r′, weighing .noLighter on oo h))
 
-  pub move-order : moveBefore old new old′ new′ ≡ ltb (w new + w old′) (w new′ + w old)
-  unfolding moveBefore
-  move-order =
+  pub claim-order-by-weight : sizedClaimBefore old new old′ new′ ≡ ltb (w new + w old′) (w new′ + w old)
+  unfolding sizedClaimBefore
+  claim-order-by-weight =
       tells-ltb
       (cond-both Adds (less new old) _ _
       (λ f. cond-both Adds (less new′ old′) _ _ (both-fall f) (only-first-falls f))

@@ -12,6 +12,7 @@ use lib.ListN.{length, getD, set}
 use Rattle.apportionment.specs.Divisor.{oneMore}
 use Rattle.apportionment.specs.Limits.{houseLimit}
 use Rattle.apportionment.specs.Lists.{sum, firstPlace}
+use Rattle.apportionment.specs.inner.Problem.{Problem}
 use Rattle.apportionment.specs.inner.Lists.{entry-at-most-sum, sum-listOf-one}
 use Rattle.apportionment.specs.Leximin.{startSeats}
 use Rattle.claims.specs.inner.Order.{ClaimTest, firstUnmet, lastMet, placed, placedTimes, oneLess, withdrawn, withdrawnTimes}
@@ -20,13 +21,13 @@ use Rattle.claims.specs.inner.Standing.{length-withdrawnTimes, withdrawnTimes-s
 use Rattle.claims.specs.inner.StandingMoves.{at-oneMore}
 use Rattle.claims.specs.inner.StartSeats.{length-start, start-at, start-standing}
 use Rattle.claims.specs.inner.DivisorSeats.{withdrawn-at-most}
-use Rattle.claims.specs.inner.SizeClaims.{Sound, sizeTest, oneEach}
+use Rattle.claims.specs.inner.SizeClaims.{Positive, problem-positive, sizeTest, oneEach}
 use Rattle.claims.specs.inner.SizeOrder.{size-order}
 use Rattle.claims.specs.inner.Tournament.{winner-lt, root-is-first}
 use Rattle.claims.specs.inner.TournamentReplay.{replaying-start}
-use Rattle.leximin.specs.inner.Scan.{Workable}
-use Rattle.leximin.specs.inner.Start.{Ready, ready-sound, ready-counts, start-workable}
-use Rattle.leximin.specs.inner.Sided.{Side, Sided}
+use Rattle.leximin.specs.inner.Scan.{Bounded}
+use Rattle.leximin.specs.inner.Start.{start-bounded}
+use Rattle.leximin.specs.inner.Sided.{Side, Sided, sided-long}
 use Rattle.leximin.specs.inner.Tournament.{movesBefore, Champions, Moved, moves-pass, moves-agree}
 
 -- One seat moved: placed where `up` is true, and withdrawn otherwise.
@@ -49,7 +50,7 @@ Room false n xs times = n + times ≤ sum xs
 
 -- The start, of which so many seats can be moved.
 pub record Movable (up : Bool) (ps xs : List ℕ) (P H times : ℕ) : Type 0 where
-  pub ready : Ready ps P H
+  pub problem : Problem ps P H
   pub begun : xs ≡ startSeats ps H
   pub room : Room up (length ps) xs times
 
@@ -66,7 +67,7 @@ placed-at-least lt n xs some states (suc k) i =
 
 -- ---- each move leaves seats that a move can be made with
 
-module _ {ps : List ℕ} {P H : ℕ} (r : Ready ps P H) where
+module _ {ps : List ℕ} {P H : ℕ} (problem : Problem ps P H) where
   abbrev n : ℕ
   n = length ps
 
@@ -76,24 +77,22 @@ module _ {ps : List ℕ} {P H : ℕ} (r : Ready ps P H) where
   abbrev start : List ℕ
   start = startSeats ps H
 
-  s : Sound ps H
-  s = ready-sound r
+  s : Positive ps H
+  s = problem-positive problem
 
   sided : (up : Bool) {xs : List ℕ} → length xs ≡ n → ((i : ℕ) → getD xs i 0 ≤ houseLimit) → ((i : ℕ) → i < n → 1 ≤ getD xs i 0)
-      → ((i : ℕ) → Side up (getD start i 0) (getD xs i 0)) → Sided up ps xs P H
+      → ((i : ℕ) → Side up (getD start i 0) (getD xs i 0)) → Sided up ps P H xs
   sided up states fit least side =
       record {
         seated =
             record {
-              workable = record { counts = ready-counts r; someState = s .someState; states = states; seatsFit = fit };
+              bounded = record { fillable = record { problem = problem; sameLength = states }; seatsWithin = fit };
               least = least;
             };
-        sound = s;
-        few = r .problem .statesWithin;
         side = λ i inside. rw (← start-at ps H i inside) (side i);
       }
 
-  placed-sided : (k : ℕ) → sum start + k ≤ houseLimit → Sided true ps (placedTimes lt n start k) P H
+  placed-sided : (k : ℕ) → sum start + k ≤ houseLimit → Sided true ps P H (placedTimes lt n start k)
   placed-sided k room =
       sided true (length-placedTimes n lt start k ∙ length-start ps H)
       (λ i. le-trans (entry-at-most-sum (placedTimes lt n start k) i)
@@ -101,18 +100,18 @@ module _ {ps : List ℕ} {P H : ℕ} (r : Ready ps P H) where
       (placedTimes-standing n oneEach lt (size-order s) start k (s .someState) (start-standing s) .least)
       (placed-at-least lt n start (s .someState) (length-start ps H) k)
 
-  withdrawn-sided : (k : ℕ) → n + k ≤ sum start → Sided false ps (withdrawnTimes oneEach lt n start k) P H
+  withdrawn-sided : (k : ℕ) → n + k ≤ sum start → Sided false ps P H (withdrawnTimes oneEach lt n start k)
   withdrawn-sided k room =
       sided false (length-withdrawnTimes n oneEach lt start k ∙ length-start ps H)
-      (λ i. le-trans (withdrawn-at-most oneEach lt n start k i) (start-workable r .seatsFit i))
+      (λ i. le-trans (withdrawn-at-most oneEach lt n start k i) (start-bounded problem .seatsWithin i))
       (withdrawnTimes-standing n oneEach lt (size-order s) start k (s .someState) (start-standing s) (rw (sum-listOf-one n) room) .least)
       (withdrawn-at-most oneEach lt n start k)
 
 pub moved-sided : {ps xs : List ℕ} {P H times : ℕ} (up : Bool) → Movable up ps xs P H times → (k : ℕ) → k ≤ times
-    → Sided up ps (movedTimes up ps H xs k) P H
+    → Sided up ps P H (movedTimes up ps H xs k)
 unfolding movedTimes
-moved-sided true m k h = rw (m .begun) (placed-sided (m .ready) k (omega (arith, rw (m .begun) at (m .room))))
-moved-sided false m k h = rw (m .begun) (withdrawn-sided (m .ready) k (omega (arith, rw (m .begun) at (m .room))))
+moved-sided true m k h = rw (m .begun) (placed-sided (m .problem) k (omega (arith, rw (m .begun) at (m .room))))
+moved-sided false m k h = rw (m .begun) (withdrawn-sided (m .problem) k (omega (arith, rw (m .begun) at (m .room))))
 
 -- ---- moves by a tournament
 
@@ -126,7 +125,7 @@ unfolding movedTimes placedTimes withdrawnTimes
 none-moved true ps H xs = refl
 none-moved false ps H xs = refl
 
-pub movable-sided : {up : Bool} {ps xs : List ℕ} {P H times : ℕ} → Movable up ps xs P H times → Sided up ps xs P H
+pub movable-sided : {up : Bool} {ps xs : List ℕ} {P H times : ℕ} → Movable up ps xs P H times → Sided up ps P H xs
 movable-sided {up} {ps} {xs} {P} {H} m = rw (none-moved up ps H xs) (moved-sided up m 0 zero-le)
 
 pub one-more-moved : (up : Bool) (ps : List ℕ) (H : ℕ) (xs : List ℕ) (k : ℕ)
@@ -145,24 +144,24 @@ moved-by-first false ps H xs = refl
 
 module _ {up : Bool} {ps xs₀ xs t : List ℕ} {P H times done : ℕ}
     (m : Movable up ps xs₀ P H times) (so-far : Moving up ps xs₀ H done xs t) where
-  pub moving-sided : done ≤ times → Sided up ps xs P H
+  pub moving-sided : done ≤ times → Sided up ps P H xs
   moving-sided h = rw (so-far .seats) (moved-sided up m done h)
 
   -- The state at the root makes the next move.
   module _ {j : ℕ} (root : j ≡ getD t 1 0) where
     pub root-inside : j < length ps
-    root-inside = rw root (winner-lt (so-far .winners) 1 (omega arith) (omega (arith, m .ready .problem .someState)))
+    root-inside = rw root (winner-lt (so-far .winners) 1 (omega arith) (omega (arith, m .problem .states .someState)))
 
     pub root-has-seats : done ≤ times → j < length xs
-    root-has-seats h = rw (moving-sided h .seated .workable .states) root-inside
+    root-has-seats h = rw (sided-long (moving-sided h)) root-inside
 
     module _ {v : ℕ} (move : v ≡ movedBy up (getD xs j 0)) (left : done < times) where
       pub root-moved : set xs j v ≡ movedTimes up ps H xs₀ (done + 1)
       root-moved =
-          let first = root-is-first (so-far .winners) (moves-pass up (moving-sided (omega arith))) (m .ready .problem .someState) in
+          let first = root-is-first (so-far .winners) (moves-pass up (moving-sided (omega arith))) (m .problem .states .someState) in
           rw (one-more-moved up ps H xs₀ done, ← so-far .seats, moved-by-first up ps H xs, ← first, ← root) (rw move)
 
-      pub root-due : Sided up ps (set xs j v) P H × Moved up ps H (set xs j v) j t
+      pub root-due : Sided up ps P H (set xs j v) × Moved up ps H (set xs j v) j t
       root-due = (
         rw root-moved (moved-sided up m (done + 1) (omega arith)),
         record { inside = root-inside; due = replaying-start (so-far .winners) j (moves-agree up ps H xs j v) },
@@ -171,12 +170,14 @@ module _ {up : Bool} {ps xs₀ xs t : List ℕ} {P H times done : ℕ}
 -- ---- moves by a scan
 
 -- The state that moves is one of the states.
-pub unmet-inside : {ps xs : List ℕ} {P H r : ℕ} → Workable ps xs P H → r ≡ firstUnmet (sizeTest ps H) (length ps) xs → r < length xs
-unmet-inside {ps} {xs} {P} {H} w e = rw (e, w .states) (firstUnmet-lt (length ps) (sizeTest ps H) xs (w .someState))
+pub unmet-inside : {ps xs : List ℕ} {P H r : ℕ} → Bounded ps P H xs → r ≡ firstUnmet (sizeTest ps H) (length ps) xs → r < length xs
+unmet-inside {ps} {xs} {P} {H} b e =
+    rw (e, b .fillable .sameLength) (firstUnmet-lt (length ps) (sizeTest ps H) xs (b .fillable .problem .states .someState))
 
-pub met-inside : {ps xs : List ℕ} {P H r : ℕ} → Workable ps xs P H → r ≡ lastMet oneEach (sizeTest ps H) (length ps) xs → r < length xs
-met-inside {ps} {xs} {P} {H} w e = rw (e, w .states) (lastMet-lt (length ps) oneEach (sizeTest ps H) xs (w .someState))
+pub met-inside : {ps xs : List ℕ} {P H r : ℕ} → Bounded ps P H xs → r ≡ lastMet oneEach (sizeTest ps H) (length ps) xs → r < length xs
+met-inside {ps} {xs} {P} {H} b e =
+    rw (e, b .fillable .sameLength) (lastMet-lt (length ps) oneEach (sizeTest ps H) xs (b .fillable .problem .states .someState))
 
 -- The same of the populations.
-pub inside-states : {ps xs : List ℕ} {P H r : ℕ} → Workable ps xs P H → r < length xs → r < length ps
-inside-states w h = rw (w .states) at h
+pub inside-states : {ps xs : List ℕ} {P H r : ℕ} → Bounded ps P H xs → r < length xs → r < length ps
+inside-states b h = rw (b .fillable .sameLength) at h

@@ -8,28 +8,29 @@ use native.Mathlib.Omega.{arith}
 use borrow.Author.Tests.{lt-ltb, le-ltb}
 use lib.Dec.{ltb}
 use lib.ListN.{length, getD}
+use Rattle.apportionment.specs.inner.Problem.{Problem}
 use Rattle.apportionment.specs.Quantities.{distance}
 use Rattle.apportionment.specs.Leximin.{leximinFor, startSeats, startTotal, gap}
 use Rattle.claims.specs.inner.Order.{placedTimes, withdrawnTimes, endsApart, comes, firstUnmet, lastMet}
-use Rattle.claims.specs.inner.SizeClaims.{sizeTest, oneEach}
+use Rattle.claims.specs.inner.SizeClaims.{problem-positive, sizeTest, oneEach}
 use Rattle.claims.specs.inner.LeximinSteps.{lexMoved, last-step-leximin}
 use Rattle.problem.specs.inner.Total.{cappedTotal, total-is-sum}
-use Rattle.sizes.specs.inner.Sizes.{MoveIs, lessMove}
+use Rattle.sizes.specs.inner.Sizes.{ClaimIs, lessClaim}
 use Rattle.leximin.specs.inner.Scan.{Seated, claims-compared}
-use Rattle.leximin.specs.inner.Start.{Ready, ready-sound, start-total-fits}
+use Rattle.leximin.specs.inner.Start.{start-total-fits}
 use Rattle.leximin.specs.inner.Moves.{movedTimes, Movable}
-use Rattle.sizes.specs.declared.Move.{Move}
+use Rattle.sizes.specs.declared.Claim.{Claim}
 
 -- What filling hands back: the leximin allotment of the house, and the gap between the start and the house.
 pub record Settled (ps : List ℕ) (H : ℕ) (xs : List ℕ) (made : ℕ) : Type 0 where
   pub seats : xs ≡ leximinFor ps H H
   pub steps : made ≡ gap ps H
 
-module _ {ps : List ℕ} {P H : ℕ} (r : Ready ps P H) where
+module _ {ps : List ℕ} {P H : ℕ} (problem : Problem ps P H) where
   -- The starting total as it is added up.
   start-added : {xs : List ℕ} {start : ℕ} → xs ≡ startSeats ps H → start ≡ cappedTotal xs → start ≡ startTotal ps H
   unfolding startTotal
-  start-added e t = t ∙ rw e (total-is-sum (startSeats ps H) (start-total-fits r))
+  start-added e t = t ∙ rw e (total-is-sum (startSeats ps H) (start-total-fits problem))
 
   -- Below the house the gap is what is placed, and otherwise what is withdrawn.
   gap-up : startTotal ps H < H → gap ps H ≡ H - startTotal ps H
@@ -43,12 +44,12 @@ module _ {ps : List ℕ} {P H : ℕ} (r : Ready ps P H) where
   moved-up : length ps ≤ H → startTotal ps H < H
       → placedTimes (sizeTest ps H) (length ps) (startSeats ps H) (gap ps H) ≡ leximinFor ps H H
   unfolding lexMoved
-  moved-up fits h = rw (lt-ltb _ _ h, lexMoved) at (last-step-leximin (ready-sound r) fits)
+  moved-up fits h = rw (lt-ltb _ _ h, lexMoved) at (last-step-leximin (problem-positive problem) fits)
 
   moved-down : length ps ≤ H → H ≤ startTotal ps H
       → withdrawnTimes oneEach (sizeTest ps H) (length ps) (startSeats ps H) (gap ps H) ≡ leximinFor ps H H
   unfolding lexMoved
-  moved-down fits h = rw (le-ltb _ _ h, lexMoved) at (last-step-leximin (ready-sound r) fits)
+  moved-down fits h = rw (le-ltb _ _ h, lexMoved) at (last-step-leximin (problem-positive problem) fits)
 
   module _ {xs : List ℕ} {start : ℕ} (begun : xs ≡ startSeats ps H) (added : start ≡ cappedTotal xs) where
     total : start ≡ startTotal ps H
@@ -56,11 +57,11 @@ module _ {ps : List ℕ} {P H : ℕ} (r : Ready ps P H) where
 
     pub can-place : start < H → Movable true ps xs P H (H - start)
     unfolding startTotal
-    can-place h = rw begun (record { ready = r; begun = refl; room = omega (arith, total, r .problem .houseWithin) })
+    can-place h = rw begun (record { problem = problem; begun = refl; room = omega (arith, total, problem .houseWithin) })
 
     pub can-withdraw : length ps ≤ H → H ≤ start → Movable false ps xs P H (start - H)
     unfolding startTotal
-    can-withdraw fits h = rw begun (record { ready = r; begun = refl; room = omega (arith, total) })
+    can-withdraw fits h = rw begun (record { problem = problem; begun = refl; room = omega (arith, total) })
 
     pub placed-settled : {ys : List ℕ} → length ps ≤ H → start < H → ys ≡ movedTimes true ps H xs (H - start)
         → Settled ps H ys (H - start)
@@ -80,18 +81,18 @@ module _ {ps : List ℕ} {P H : ℕ} (r : Ready ps P H) where
 
 -- ---- the test by the two ends
 
-module _ {ps xs : List ℕ} {P H : ℕ} (w : Seated ps xs P H) {i j : ℕ} (last : i ≡ lastMet oneEach (sizeTest ps H) (length ps) xs)
+module _ {ps xs : List ℕ} {P H : ℕ} (w : Seated ps P H xs) {i j : ℕ} (last : i ≡ lastMet oneEach (sizeTest ps H) (length ps) xs)
     (first : j ≡ firstUnmet (sizeTest ps H) (length ps) xs) where
   -- No state has a seat to spare: nothing is met above one each.
   pub none-to-spare : getD xs i 0 ≤ 1 → true ≡ endsApart oneEach (sizeTest ps H) (length ps) xs
   unfolding endsApart
   none-to-spare h = rw (← last, le-ltb _ _ h)
 
-  pub ends-compared : {met unmet : Move} → 1 < getD xs i 0 → MoveIs (getD ps i 0) (getD xs i 0 - 1) P H met
-      → MoveIs (getD ps j 0) (getD xs j 0) P H unmet
-      → cond (lessMove met unmet) true (cond (lessMove unmet met) false (ltb i j)) ≡ endsApart oneEach (sizeTest ps H) (length ps) xs
+  pub ends-compared : {met unmet : Claim} → 1 < getD xs i 0 → ClaimIs (getD ps i 0) (getD xs i 0 - 1) P H met
+      → ClaimIs (getD ps j 0) (getD xs j 0) P H unmet
+      → cond (lessClaim met unmet) true (cond (lessClaim unmet met) false (ltb i j)) ≡ endsApart oneEach (sizeTest ps H) (length ps) xs
   unfolding endsApart comes
   ends-compared h m u =
       rw (← last, ← first, lt-ltb _ _ h)
-      (rw (claims-compared (w .workable .counts) i (getD xs i 0 - 1) j (getD xs j 0) m u)
-      (rw (claims-compared (w .workable .counts) j (getD xs j 0) i (getD xs i 0 - 1) u m)))
+      (rw (claims-compared (w .bounded .fillable .problem) i (getD xs i 0 - 1) j (getD xs j 0) m u)
+      (rw (claims-compared (w .bounded .fillable .problem) j (getD xs j 0) i (getD xs i 0 - 1) u m)))

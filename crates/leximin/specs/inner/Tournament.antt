@@ -11,7 +11,7 @@ use Rattle.claims.specs.inner.SizeOrder.{size-order}
 use Rattle.claims.specs.inner.Tournament.{better, Passes, Winners}
 use Rattle.claims.specs.inner.TournamentReplay.{Replaying, AgreeBut}
 use Rattle.claims.specs.inner.TournamentOrders.{wants-passes, gives-passes, wants-agree, gives-agree}
-use Rattle.leximin.specs.inner.Sided.{Sided}
+use Rattle.leximin.specs.inner.Sided.{Sided, sided-positive}
 
 -- State i moves rather than state j.
 unfoldable pub movesBefore : (up : Bool) (ps : List ℕ) (H : ℕ) (xs : List ℕ) → ℕ → ℕ → Bool
@@ -35,10 +35,10 @@ pub record Moved (up : Bool) (ps : List ℕ) (H : ℕ) (xs : List ℕ) (j : ℕ)
   pub due : Replaying (movesBefore up ps H xs) (length ps) ((length ps + j) / 2) t
 
 -- The order is one for a tournament, and a state's seats bear on no other states' order.
-pub moves-pass : {ps xs : List ℕ} {P H : ℕ} (up : Bool) → Sided up ps xs P H → Passes (length ps) (movesBefore up ps H xs)
+pub moves-pass : {ps xs : List ℕ} {P H : ℕ} (up : Bool) → Sided up ps P H xs → Passes (length ps) (movesBefore up ps H xs)
 unfolding movesBefore
-moves-pass {ps} {xs} true s = wants-passes (size-order (s .sound)) xs (s .seated .least)
-moves-pass {ps} {xs} false s = gives-passes (size-order (s .sound)) xs
+moves-pass {ps} {xs} true s = wants-passes (size-order (sided-positive s)) xs (s .seated .least)
+moves-pass {ps} {xs} false s = gives-passes (size-order (sided-positive s)) xs
 
 pub moves-agree : (up : Bool) (ps : List ℕ) (H : ℕ) (xs : List ℕ) (j v : ℕ)
     → AgreeBut j (movesBefore up ps H xs) (movesBefore up ps H (set xs j v))

@@ -7,8 +7,8 @@ use lib.Seq.{length-take-le}
 use native.Mathlib.Omega.{arith}
 use Rattle.apportionment.specs.Limits.{stateLimit}
 use Rattle.placing.specs.Placing.{peopleOf}
-use Rattle.placing.specs.inner.Telling.{opened-parts}
-use Rattle.placing.specs.inner.Stepping.{states-fit, steps-fit, seats-ready, placed-next, withdrawn-next}
+use Rattle.placing.specs.inner.Telling.{opened-problem}
+use Rattle.placing.specs.inner.Stepping.{states-fit, steps-fit, own-seated, placed-next, withdrawn-next}
 use borrow.Author.Needs.{needs}
 use Rattle.placing.proofs.moved.Statement.{statement}
 use Rattle.placing.proofs.moved.Tie as tie
@@ -60,7 +60,7 @@ unfolding peopleOf
 place-requires c κs =
     let at-total-of = c .before .before .before in
     let start = at-total-of .before .before .before .before in
-    seats-ready _ (start .pre .0) (opened-parts (start .pre .0 .opens) (at-total-of .total-of .ensures)) .workable
+    own-seated _ (start .pre .0) (opened-problem (start .pre .0 .opens) (at-total-of .total-of .ensures)) .bounded
 
 add-t19 : tie.Need-add-t19
 add-t19 c = search needs
@@ -106,7 +106,7 @@ unfolding peopleOf
 withdraw-requires c κs =
     let at-total-of = c .before .before .before in
     let start = at-total-of .before .before .before .before in
-    seats-ready _ (start .pre .0) (opened-parts (start .pre .0 .opens) (at-total-of .total-of .ensures))
+    own-seated _ (start .pre .0) (opened-problem (start .pre .0 .opens) (at-total-of .total-of .ensures))
 
 sub-t28 : tie.Need-sub-t28
 sub-t28 c = search needs

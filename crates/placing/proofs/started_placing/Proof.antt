@@ -15,10 +15,10 @@ array-borrow-prefix-people : tie.Need-array-borrow-prefix-people
 array-borrow-prefix-people c = search needs
 
 slice-aggregate-copy-into : tie.Need-slice-aggregate-copy-into
-slice-aggregate-copy-into c = sym (length-take-le _ _ (c .before .before .pre .problem .statesWithin))
+slice-aggregate-copy-into c = sym (length-take-le _ _ (c .before .before .pre .states .statesWithin))
 
 copy-into-requires : tie.Need-copy-into-requires
-copy-into-requires c κs = length-take-le _ _ (c .before .before .pre .problem .statesWithin)
+copy-into-requires c κs = length-take-le _ _ (c .before .before .pre .states .statesWithin)
 
 array-borrow-prefix-seats : tie.Need-array-borrow-prefix-seats
 array-borrow-prefix-seats c = search needs
@@ -26,12 +26,12 @@ array-borrow-prefix-seats c = search needs
 slice-aggregate-fill-start : tie.Need-slice-aggregate-fill-start
 slice-aggregate-fill-start c =
     let start = c .before .before .before .before .before in
-    sym (length-take-le _ _ (start .pre .problem .statesWithin))
+    sym (length-take-le _ _ (start .pre .states .statesWithin))
 
 fill-start-requires : tie.Need-fill-start-requires
 fill-start-requires c κs =
     let start = c .before .before .before .before .before in
-    (start .pre, length-take-le _ _ (start .pre .problem .statesWithin))
+    record { problem = start .pre; sameLength = length-take-le _ _ (start .pre .states .statesWithin) }
 
 start-total-requires : tie.Need-start-total-requires
 start-total-requires c κs = search needs

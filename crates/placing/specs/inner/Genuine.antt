@@ -3,7 +3,7 @@
 -- Assumes nothing.
 use mathlib.Core.Path.{_≡_, refl, sym, _∙_}
 use mathlib.Core.Bool.{Bool, true, false, false≢true, _&&_}
-use mathlib.Core.Logic.{_⊎_, inl, inr}
+use mathlib.Core.Logic.{⊎-elim}
 use mathlib.Core.List.{List, [], _∷_}
 use Prim.Native.Nat.{ℕ, zero, suc, zero-le, suc-le-suc, _+_, _-_, _<_, _≤_}
 use native.Mathlib.Omega.{arith}
@@ -14,18 +14,20 @@ use lib.ListN.{length, getD, List·getD-eq-default}
 use Rattle.apportionment.specs.Limits.{houseLimit, sumLimit}
 use Rattle.apportionment.specs.Lists.{sum}
 use Rattle.apportionment.specs.inner.Lists.{entry-at-most-sum}
+use Rattle.apportionment.specs.inner.Tests.{either-way}
+use Rattle.apportionment.specs.inner.Problem.{Problem, Fillable}
 use Rattle.apportionment.specs.Checks.{within}
 use Rattle.apportionment.specs.inner.Checks.{within-limits, within-true}
 use Rattle.apportionment.specs.Quantities.{distance}
 use Rattle.apportionment.specs.Leximin.{leximinFor, startSeats, startTotal, gap, totalAfter}
 use Rattle.claims.specs.inner.Order.{Standing, endsApart}
-use Rattle.claims.specs.inner.SizeClaims.{sizeTest, oneEach}
+use Rattle.claims.specs.inner.SizeClaims.{Positive, problem-positive, sizeTest, oneEach}
 use Rattle.claims.specs.inner.DivisorSeats.{withdrawn-at-most}
 use Rattle.claims.specs.inner.LeximinSteps.{lexMoved, moved-leximin, moved-standing, moved-total, leximin-ends-apart, ends-apart-leximin}
 use Rattle.claims.specs.inner.SizeShape.{le-or-lt}
 use Rattle.problem.specs.inner.Total.{cappedTotal, total-is-sum, total-past-limit}
 use Rattle.leximin.specs.inner.Scan.{Seated}
-use Rattle.leximin.specs.inner.Start.{Ready, ready-counts, ready-sound, start-within-house, start-total-fits}
+use Rattle.leximin.specs.inner.Start.{start-within-house, start-total-fits}
 use Rattle.placing.specs.inner.Lists.{eachWithin}
 
 pub and-both : (a b : Bool) → a && b ≡ true → (a ≡ true) × (b ≡ true)
@@ -67,14 +69,12 @@ each-within-at : (limit : ℕ) (xs : List ℕ) → eachWithin limit xs ≡ true 
     → (1 ≤ getD xs i 0) × (getD xs i 0 ≤ limit)
 unfolding eachWithin
 each-within-at limit [] e i h = absurd (not-suc-le-zero h)
-each-within-at limit (x ∷ xs) e i h = by-head (within limit x) refl (each-within-at limit xs) i h
-  where
-    by-head : (t : Bool) → within limit x ≡ t
-        → (eachWithin limit xs ≡ true → (k : ℕ) → k < length xs → (1 ≤ getD xs k 0) × (getD xs k 0 ≤ limit))
-        → (k : ℕ) → k < length (x ∷ xs) → (1 ≤ getD (x ∷ xs) k 0) × (getD (x ∷ xs) k 0 ≤ limit)
-    by-head true w rest zero l = within-limits limit x w
-    by-head true w rest (suc k) l = rest (rw w at e) k (le-of-suc-le-suc l)
-    by-head false w rest k l = absurd (false≢true (rw w at e))
+each-within-at limit (x ∷ xs) e zero h =
+    either-way (within limit x) (within-limits limit x) (λ out. absurd (false≢true (rw out at e)))
+each-within-at limit (x ∷ xs) e (suc i) h =
+    either-way (within limit x)
+    (λ inside. each-within-at limit xs (rw inside at e) i (le-of-suc-le-suc h))
+    (λ out. absurd (false≢true (rw out at e)))
 
 -- Seats within the limit at each place pass.
 pub all-within : (limit : ℕ) (xs : List ℕ) → ((i : ℕ) → i < length xs → (1 ≤ getD xs i 0) × (getD xs i 0 ≤ limit))
@@ -85,22 +85,17 @@ all-within limit (x ∷ xs) all =
     let here : (1 ≤ x) × (x ≤ limit) = all 0 (suc-le-suc zero-le) in
     rw (within-true limit x here) (all-within limit xs (λ i h. all (suc i) (suc-le-suc h)))
 
-pub seats-seated : {ps xs : List ℕ} {P H : ℕ} → Ready ps P H → length xs ≡ length ps → eachWithin H xs ≡ true → Seated ps xs P H
-seats-seated {ps} {xs} {P} {H} r same e =
+pub seats-seated : {ps xs : List ℕ} {P H : ℕ} → Fillable ps P H xs → eachWithin H xs ≡ true → Seated ps P H xs
+seats-seated {ps} {xs} {P} {H} f e =
     record {
-      workable =
-          record {
-            counts = ready-counts r;
-            someState = r .problem .someState;
-            states = same;
-            seatsFit = λ i. by-place i (le-or-lt (length xs) i);
-          };
-      least = λ i h. each-within-at H xs e i (rw same h) .0;
+      bounded = record { fillable = f; seatsWithin = at-most };
+      least = λ i h. each-within-at H xs e i (rw (f .sameLength) h) .0;
     }
   where
-    by-place : (i : ℕ) → (length xs ≤ i) ⊎ (i < length xs) → getD xs i 0 ≤ houseLimit
-    by-place i (inl h) = rw (List·getD-eq-default xs 0 {n = i} h) (omega arith)
-    by-place i (inr h) = le-trans (each-within-at H xs e i h .1) (r .problem .houseWithin)
+    at-most : (i : ℕ) → getD xs i 0 ≤ houseLimit
+    at-most i =
+        ⊎-elim (λ h. rw (List·getD-eq-default xs 0 {n = i} h) (omega arith))
+        (λ h. le-trans (each-within-at H xs e i h .1) (f .problem .houseWithin)) (le-or-lt (length xs) i)
 
 -- Seats that agree are within the house.
 pub agreed-within : (ps xs : List ℕ) (H total : ℕ) → seatsAgree ps xs H total ≡ true → eachWithin H xs ≡ true
@@ -111,18 +106,21 @@ agreed-within ps xs H total e =
 
 -- ---- the leximin allotment passes the tests of seats
 
-module _ {ps : List ℕ} {P H : ℕ} (r : Ready ps P H) (fits : length ps ≤ H) (m : ℕ) (few : m ≤ gap ps H) where
+module _ {ps : List ℕ} {P H : ℕ} (problem : Problem ps P H) (fits : length ps ≤ H) (m : ℕ) (few : m ≤ gap ps H) where
   abbrev lex : List ℕ
   lex = leximinFor ps H (totalAfter ps H m)
 
+  positive : Positive ps H
+  positive = problem-positive problem
+
   moved : lexMoved ps H m ≡ lex
-  moved = moved-leximin (ready-sound r) fits m few
+  moved = moved-leximin positive fits m few
 
   lex-standing : Standing (length ps) oneEach (sizeTest ps H) lex
-  lex-standing = rw moved at (moved-standing (ready-sound r) fits m few)
+  lex-standing = rw moved at (moved-standing positive fits m few)
 
   lex-total : sum lex ≡ totalAfter ps H m
-  lex-total = rw moved at (moved-total (ready-sound r) fits m few)
+  lex-total = rw moved at (moved-total positive fits m few)
 
   pub lex-states : length (leximinFor ps H (totalAfter ps H m)) ≡ length ps
   lex-states = lex-standing .states
@@ -130,25 +128,21 @@ module _ {ps : List ℕ} {P H : ℕ} (r : Ready ps P H) (fits : length ps ≤ H)
   -- No state has more seats than the house: placing ends at the house, and withdrawing begins at nearest seats.
   lex-within-house : (i : ℕ) → getD lex i 0 ≤ H
   unfolding gap distance totalAfter lexMoved
-  lex-within-house i = by-direction (ltb (startTotal ps H) H) refl
-    where
-      by-direction : (t : Bool) → ltb (startTotal ps H) H ≡ t → getD lex i 0 ≤ H
-      by-direction true e =
-          let below = ltb-true (startTotal ps H) H e in
-          let ends : totalAfter ps H m ≤ H = rw e (omega (arith, below, few)) in
-          le-trans (entry-at-most-sum lex i) (rw lex-total ends)
-      by-direction false e =
-          rw (← moved, e)
-          (le-trans (withdrawn-at-most oneEach (sizeTest ps H) (length ps) (startSeats ps H) m i) (start-within-house r i))
+  lex-within-house i =
+      either-way (ltb (startTotal ps H) H)
+      (λ up.
+      let ends : totalAfter ps H m ≤ H = rw up (omega (arith, ltb-true (startTotal ps H) H up, few)) in
+      le-trans (entry-at-most-sum lex i) (rw lex-total ends))
+      (λ down. rw (← moved, down)
+      (le-trans (withdrawn-at-most oneEach (sizeTest ps H) (length ps) (startSeats ps H) m i) (start-within-house problem i)))
 
   -- The total after some steps is far below the limit of sums.
   total-fits : totalAfter ps H m ≤ sumLimit
   unfolding gap distance totalAfter
-  total-fits = by-direction (ltb (startTotal ps H) H) refl
-    where
-      by-direction : (t : Bool) → ltb (startTotal ps H) H ≡ t → totalAfter ps H m ≤ sumLimit
-      by-direction true e = rw e (omega (arith, ltb-true (startTotal ps H) H e, few, r .problem .houseWithin))
-      by-direction false e = rw e (omega (arith, start-total-fits r))
+  total-fits =
+      either-way (ltb (startTotal ps H) H)
+      (λ up. rw up (omega (arith, ltb-true (startTotal ps H) H up, few, problem .houseWithin)))
+      (λ down. rw down (omega (arith, start-total-fits problem)))
 
   pub lex-agrees : seatsAgree ps lex H (totalAfter ps H m) ≡ true
   unfolding seatsAgree
@@ -157,22 +151,20 @@ module _ {ps : List ℕ} {P H : ℕ} (r : Ready ps P H) (fits : length ps ≤ H)
         total-is-sum lex (rw lex-total total-fits),
         eq-eqb _ _ lex-total,
         all-within H lex (λ i h. (lex-standing .least i (rw (lex-standing .states) at h), lex-within-house i)),
-        leximin-ends-apart (ready-sound r) fits m lex few refl,
+        leximin-ends-apart positive fits m lex few refl,
       )
 
 -- Seats that pass the tests for the total after m steps are the leximin allotment for it.
-pub agreed-seats : {ps xs : List ℕ} {P H total : ℕ} → Ready ps P H → length ps ≤ H → (m : ℕ) → m ≤ gap ps H → length xs ≡ length ps
+pub agreed-seats : {ps xs : List ℕ} {P H total : ℕ} → Problem ps P H → length ps ≤ H → (m : ℕ) → m ≤ gap ps H → length xs ≡ length ps
     → total ≡ totalAfter ps H m → seatsAgree ps xs H total ≡ true → xs ≡ leximinFor ps H (totalAfter ps H m)
 unfolding seatsAgree
-agreed-seats {ps} {xs} {P} {H} {total} r fits m few same whole e =
+agreed-seats {ps} {xs} {P} {H} {total} problem fits m few same whole e =
     let both = and-both (eqb (cappedTotal xs) total && eachWithin H xs) _ e in
     let first = and-both (eqb (cappedTotal xs) total) _ (both .0) in
-    ends-apart-leximin (ready-sound r) fits m xs same (λ i h. each-within-at H xs (first .1) i (rw same h) .0)
+    ends-apart-leximin (problem-positive problem) fits m xs same (λ i h. each-within-at H xs (first .1) i (rw same h) .0)
     (capped-sum xs (eqb-true _ _ (first .0)) ∙ whole) (both .1)
   where
     capped-sum : (ys : List ℕ) → cappedTotal ys ≡ total → sum ys ≡ total
-    capped-sum ys c = by-limit (le-or-lt (sum ys) sumLimit)
-      where
-        by-limit : (sum ys ≤ sumLimit) ⊎ (sumLimit < sum ys) → sum ys ≡ total
-        by-limit (inl h) = sym (total-is-sum ys h) ∙ c
-        by-limit (inr h) = omega (arith, total-past-limit ys h, c, whole, total-fits r fits m few)
+    capped-sum ys c =
+        ⊎-elim (λ h. sym (total-is-sum ys h) ∙ c)
+        (λ h. omega (arith, total-past-limit ys h, c, whole, total-fits problem fits m few)) (le-or-lt (sum ys) sumLimit)

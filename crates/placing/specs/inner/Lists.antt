@@ -4,14 +4,14 @@ use mathlib.Core.Path.{_≡_, refl, sym, _∙_, ap}
 use mathlib.Core.Bool.{Bool, true, false, false≢true, cond, _&&_}
 use mathlib.Core.List.{List, [], _∷_, _++_}
 use Prim.Native.Nat.{ℕ, zero, suc, _+_, _-_, _<_, _≤_}
-use native.Mathlib.Omega.{arith}
 use native.Mathlib.Numerals.{add-one}
 use native.Mathlib.Nat.{sub-zero, zero-sub, suc-sub-suc}
 use lib.Dec.{eqb}
-use lib.ListN.{length, getD, take, drop, replicate, take-append-drop, length-drop, length-replicate, length-append, drop-of-length-le}
+use lib.ListN.{length, getD, take, drop, replicate, take-append-drop, length-drop, drop-of-length-le}
 use lib.Seq.{drop-cons, length-take-le, take-append-seam, drop-append-seam}
-use borrow.Author.Tests.{eqb-true, eqb-false, eq-eqb, ne-eqb}
+use borrow.Author.Tests.{eqb-true}
 use Rattle.apportionment.specs.Limits.{stateLimit}
+use Rattle.apportionment.specs.inner.Tests.{either-way}
 use Rattle.apportionment.specs.Checks.{within}
 use Rattle.placing.specs.Placing.{padded}
 
@@ -31,11 +31,8 @@ pub zeros-step : (clear : Bool) (xs : List ℕ) (i : ℕ) → i < length xs
     → (clear && allZero (drop i xs)) ≡ ((clear && eqb (getD xs i 0) 0) && allZero (drop (i + 1) xs))
 unfolding allZero
 zeros-step false xs i h = refl
-zeros-step true xs i h = rw (drop-cons xs i 0 h, add-one) (by-test (eqb (getD xs i 0) 0))
-  where
-    by-test : (t : Bool) → cond t (allZero (drop (suc i) xs)) false ≡ (t && allZero (drop (suc i) xs))
-    by-test true = refl
-    by-test false = refl
+zeros-step true xs i h =
+    rw (drop-cons xs i 0 h, add-one) (either-way (eqb (getD xs i 0) 0) (λ none. rw none) (λ some. rw some))
 
 pub zeros-end : (clear : Bool) (xs : List ℕ) (i : ℕ) → length xs ≤ i → (clear && allZero (drop i xs)) ≡ clear
 unfolding allZero
@@ -61,11 +58,10 @@ within-end limit xs i h = rw drop-of-length-le
 all-zero-replicate : (xs : List ℕ) → allZero xs ≡ true → xs ≡ replicate (length xs) 0
 unfolding allZero
 all-zero-replicate [] e = refl
-all-zero-replicate (x ∷ xs) e = by-head (eqb x 0) refl (all-zero-replicate xs)
-  where
-    by-head : (t : Bool) → eqb x 0 ≡ t → (allZero xs ≡ true → xs ≡ replicate (length xs) 0) → x ∷ xs ≡ replicate (length (x ∷ xs)) 0
-    by-head true z rest = ap (λ (y : ℕ). y ∷ xs) (eqb-true x 0 z) ∙ ap (λ (l : List ℕ). 0 ∷ l) (rest (rw z at e))
-    by-head false z rest = absurd (false≢true (rw z at e))
+all-zero-replicate (x ∷ xs) e =
+    either-way (eqb x 0)
+    (λ none. ap (λ (y : ℕ). y ∷ xs) (eqb-true x 0 none) ∙ ap (λ (l : List ℕ). 0 ∷ l) (all-zero-replicate xs (rw none at e)))
+    (λ some. absurd (false≢true (rw some at e)))
 
 zeros-pass : (n : ℕ) → allZero (replicate n 0) ≡ true
 unfolding allZero
@@ -89,10 +85,6 @@ take-padded xs = take-append-seam xs _
 pub zeros-past-padded : (xs : List ℕ) → allZero (drop (length xs) (padded xs)) ≡ true
 unfolding padded
 zeros-past-padded xs = rw (drop-append-seam xs (replicate (stateLimit - length xs) 0)) (zeros-pass (stateLimit - length xs))
-
-pub length-padded : (xs : List ℕ) → length xs ≤ stateLimit → length (padded xs) ≡ stateLimit
-unfolding padded
-length-padded xs h = rw (length-append, length-replicate) (omega arith)
 
 drop-zeros : (n m : ℕ) → drop {A = ℕ} n (replicate m 0) ≡ replicate (m - n) 0
 drop-zeros zero m = rw (sub-zero m)

@@ -1,7 +1,7 @@
 -- A placing of full lists is genuine exactly if it passes the tests that the code makes.
 -- Assumes nothing.
 use mathlib.Core.Path.{_≡_, refl, sym, _∙_, ap}
-use mathlib.Core.Bool.{Bool, true, false, false≢true}
+use mathlib.Core.Bool.{true, false, false≢true}
 use mathlib.Core.List.{List}
 use Prim.Native.Nat.{ℕ, _≤_}
 use lib.Dec.{leb, eqb}
@@ -10,13 +10,14 @@ use lib.Seq.{length-take-le}
 use borrow.Author.Tests.{eq-eqb, eqb-true, le-leb, leb-true}
 use Rattle.apportionment.specs.Limits.{stateLimit}
 use Rattle.apportionment.specs.Refusals.{accepted}
-use Rattle.apportionment.specs.Lists.{sum, sameList}
+use Rattle.apportionment.specs.Lists.{sameList}
 use Rattle.apportionment.specs.inner.Lists.{same-list-self, same-list-equal}
 use Rattle.apportionment.specs.Leximin.{leximinFor, gap, totalAfter}
 use Rattle.apportionment.specs.Allotment.{openRefusal}
-use Rattle.problem.specs.inner.Passed.{OpenPassed, open-passed}
+use Rattle.problem.specs.inner.Passed.{open-passed}
 use Rattle.problem.specs.inner.Total.{cappedTotal, total-is-sum}
-use Rattle.leximin.specs.inner.Start.{Ready}
+use Rattle.apportionment.specs.inner.Tests.{either-way}
+use Rattle.apportionment.specs.inner.Problem.{Problem}
 use Rattle.placing.specs.Placing.{padded, placingAt, peopleOf, samePlacing, genuine}
 use Rattle.placing.specs.inner.Lists.{allZero, padded-first, take-padded, zeros-past-padded}
 use Rattle.placing.specs.inner.Genuine.{and-both, stepsAgree, seatsAgree, lex-states, lex-agrees, agreed-seats}
@@ -79,10 +80,6 @@ facts-genuine p g =
 
 -- ---- the tests
 
--- What opening's checks let through, ready to be worked on.
-pub opened-ready : {ps : List ℕ} {H : ℕ} → OpenPassed ps H → Ready ps (sum ps) H
-opened-ready o = record { problem = o .problem; sums = refl }
-
 pub record Tested (p : Placing) : Type 0 where
   pub statesFit : p .states ≤ stateLimit
   pub opens : openRefusal (peopleOf p) (p .house) ≡ accepted
@@ -113,18 +110,18 @@ unfolding placingAt peopleOf stepsAgree
 placed-passes ps H m opens few =
     let o = open-passed ps H opens in
     let own : take (length ps) (padded ps) ≡ ps = take-padded ps in
-    let states : length (leximinFor ps H (totalAfter ps H m)) ≡ length ps = lex-states (opened-ready o) (o .seatForEach) m few in
+    let lex : List ℕ = leximinFor ps H (totalAfter ps H m) in
+    let states : length lex ≡ length ps = lex-states (o .problem) (o .seatForEach) m few in
     record {
-      statesFit = o .problem .statesWithin;
+      statesFit = o .problem .states .statesWithin;
       opens = rw own opens;
       steps = rw (own, le-leb m (gap ps H) few, eq-eqb (totalAfter ps H m) (totalAfter ps H m) refl);
       seats =
-          rw (own, sym (ap (λ (k : ℕ). take k (padded (leximinFor ps H (totalAfter ps H m)))) states) ∙ take-padded (leximinFor ps H (totalAfter ps H m)))
-          (lex-agrees (opened-ready o) (o .seatForEach) m few);
+          rw (own, sym (ap (λ (k : ℕ). take k (padded lex)) states) ∙ take-padded lex)
+          (lex-agrees (o .problem) (o .seatForEach) m few);
       peopleEnd = zeros-past-padded ps;
       seatsEnd =
-          ap (λ (k : ℕ). allZero (drop k (padded (leximinFor ps H (totalAfter ps H m))))) (sym states)
-          ∙ zeros-past-padded (leximinFor ps H (totalAfter ps H m));
+          ap (λ (k : ℕ). allZero (drop k (padded lex))) (sym states) ∙ zeros-past-padded lex;
     }
 
 -- A genuine placing passes.
@@ -139,7 +136,7 @@ passing-genuine p fullPeople fullSeats t =
     let agreed = steps-facts (peopleOf p) (p .house) (p .total) (p .steps) (t .steps) in
     let many : length (peopleOf p) ≡ p .states = own-states p fullPeople (t .statesFit) in
     let seats : take (p .states) (p .seats) ≡ leximinFor (peopleOf p) (p .house) (totalAfter (peopleOf p) (p .house) (p .steps)) =
-    agreed-seats (opened-ready o) (o .seatForEach) (p .steps) (agreed .0)
+    agreed-seats (o .problem) (o .seatForEach) (p .steps) (agreed .0)
     (length-take-le (p .states) (p .seats) (rw fullSeats (t .statesFit)) ∙ sym many) (agreed .1) (t .seats) in
     record {
       opens = t .opens;
@@ -152,17 +149,14 @@ passing-genuine p fullPeople fullSeats t =
 
 -- What no passing placing can be is not genuine.
 pub not-genuine : (p : Placing) → (Tested p → ⊥) → genuine p ≡ false
-not-genuine p refuted = by-test (genuine p) refl
-  where
-    by-test : (t : Bool) → genuine p ≡ t → genuine p ≡ false
-    by-test true e = absurd (refuted (genuine-passes p (genuine-facts p e)))
-    by-test false e = e
+not-genuine p refuted =
+    either-way (genuine p) (λ e. absurd (refuted (genuine-passes p (genuine-facts p e)))) (λ e. e)
 
--- Populations that open are ready to be worked on, with the sum that was added up.
-pub opened-parts : {ps : List ℕ} {P H : ℕ} → openRefusal ps H ≡ accepted → P ≡ cappedTotal ps → Ready ps P H
-opened-parts {ps} {P} {H} opens added =
-    let o = open-passed ps H opens in
-    record { problem = o .problem; sums = added ∙ total-is-sum ps (o .problem .sumWithin) }
+-- Populations that open make a problem with the sum that was added up.
+pub opened-problem : {ps : List ℕ} {P H : ℕ} → openRefusal ps H ≡ accepted → P ≡ cappedTotal ps → Problem ps P H
+opened-problem {ps} {P} {H} opens added =
+    let problem = open-passed ps H opens .problem in
+    rw (added ∙ total-is-sum ps (problem .states .sumWithin)) problem
 
 -- The first places of two full lists are equally many.
 pub same-first : (n : ℕ) (xs ys : List ℕ) → length xs ≡ stateLimit → length ys ≡ stateLimit → n ≤ stateLimit
@@ -174,11 +168,8 @@ pub last-test : (p : Placing) → length (p .populations) ≡ stateLimit → len
     → openRefusal (peopleOf p) (p .house) ≡ accepted → stepsAgree (peopleOf p) (p .house) (p .total) (p .steps) ≡ true
     → seatsAgree (peopleOf p) (take (p .states) (p .seats)) (p .house) (p .total) ≡ true
     → allZero (drop (p .states) (p .populations)) ≡ true → allZero (drop (p .states) (p .seats)) ≡ genuine p
-last-test p fullPeople fullSeats few opens steps seats people = by-test (allZero (drop (p .states) (p .seats))) refl
-  where
-    by-test : (t : Bool) → allZero (drop (p .states) (p .seats)) ≡ t → allZero (drop (p .states) (p .seats)) ≡ genuine p
-    by-test true e =
-        e
-        ∙ sym (facts-genuine p (passing-genuine p fullPeople fullSeats
-        (record { statesFit = few; opens = opens; steps = steps; seats = seats; peopleEnd = people; seatsEnd = e })))
-    by-test false e = e ∙ sym (not-genuine p (λ t. false≢true (sym e ∙ t .seatsEnd)))
+last-test p fullPeople fullSeats few opens steps seats people =
+    either-way (allZero (drop (p .states) (p .seats)))
+    (λ e. e ∙ sym (facts-genuine p (passing-genuine p fullPeople fullSeats
+    (record { statesFit = few; opens = opens; steps = steps; seats = seats; peopleEnd = people; seatsEnd = e }))))
+    (λ e. e ∙ sym (not-genuine p (λ t. false≢true (sym e ∙ t .seatsEnd))))

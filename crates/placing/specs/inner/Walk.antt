@@ -2,7 +2,7 @@
 -- still.
 -- Assumes nothing.
 use mathlib.Core.Path.{_≡_, refl, sym, _∙_, ap}
-use mathlib.Core.Bool.{Bool, true, false, cond}
+use mathlib.Core.Bool.{true, false}
 use mathlib.Core.List.{List}
 use Prim.Native.Nat.{ℕ, suc, _+_, _-_, _<_, _≤_}
 use native.Mathlib.Omega.{arith}
@@ -12,18 +12,26 @@ use lib.Dec.{ltb, eqb}
 use lib.ListN.{length}
 use borrow.Author.Tests.{eq-eqb, ne-eqb, eqb-true, eqb-false, ltb-true, ltb-false}
 use Rattle.apportionment.specs.Refusals.{accepted, houseReached}
+use Rattle.apportionment.specs.inner.Tests.{either-way}
 use Rattle.apportionment.specs.Quantities.{distance}
 use Rattle.apportionment.specs.Leximin.{leximinFor, startTotal, gap, totalAfter}
 use Rattle.apportionment.specs.Allotment.{seatsOf, stepsOf}
 use Rattle.apportionment.specs.declared.Method.the-variants.{Leximin}
 use Rattle.claims.specs.inner.LeximinSteps.{no-step-made, moved-leximin, total-at-gap}
 use Rattle.apportionment.specs.Allotment.{openRefusal}
-use Rattle.problem.specs.inner.Passed.{OpenPassed, open-passed}
-use Rattle.leximin.specs.inner.Start.{ready-sound}
+use Rattle.problem.specs.inner.Passed.{Openable, open-passed}
+use Rattle.claims.specs.inner.SizeClaims.{problem-positive}
 use Rattle.placing.specs.Placing.{padded, started, placingAt, peopleOf, refusedWith, steppedOf}
 use Rattle.placing.specs.inner.Lists.{take-padded}
-use Rattle.placing.specs.inner.Telling.{Genuine, facts-genuine, opened-ready, record-equal}
+use Rattle.placing.specs.inner.Telling.{Genuine, facts-genuine, record-equal}
 use Rattle.placing.specs.declared.Placing.{Placing}
+
+-- Two equalities that follow from each other are tested alike.
+same-equality : (x y u v : ℕ) → (x ≡ y → u ≡ v) → (u ≡ v → x ≡ y) → eqb x y ≡ eqb u v
+same-equality x y u v to from =
+    either-way (eqb u v)
+    (λ e. rw e (eq-eqb x y (from (eqb-true u v e))))
+    (λ e. rw e (ne-eqb x y (λ q. eqb-false u v e (to q))))
 
 -- A placing's own populations are those that it was opened with.
 own-people : (ps : List ℕ) (H m : ℕ) → peopleOf (placingAt ps H m) ≡ ps
@@ -31,24 +39,20 @@ unfolding placingAt peopleOf
 own-people ps H m = take-padded ps
 
 module _ (ps : List ℕ) (H : ℕ) (opens : openRefusal ps H ≡ accepted) where
-  opened : OpenPassed ps H
+  opened : Openable ps H
   opened = open-passed ps H opens
 
   -- With no step made the total is the start's.
   no-step-total : totalAfter ps H 0 ≡ startTotal ps H
   unfolding totalAfter
-  no-step-total = by-direction (ltb (startTotal ps H) H)
-    where
-      by-direction : (t : Bool) → cond t (startTotal ps H + 0) (startTotal ps H - 0) ≡ startTotal ps H
-      by-direction true = omega arith
-      by-direction false = omega arith
+  no-step-total = either-way (ltb (startTotal ps H) H) (λ up. rw up (omega arith)) (λ down. rw down (omega arith))
 
   -- Opening gives the placing after no step.
   pub start-is-first : started ps H ≡ placingAt ps H 0
   unfolding started placingAt
   start-is-first =
       record-equal refl refl refl
-      (ap padded (sym (no-step-made ps H) ∙ moved-leximin (ready-sound (opened-ready opened)) (opened .seatForEach) 0 (omega arith)))
+      (ap padded (sym (no-step-made ps H) ∙ moved-leximin (problem-positive (opened .problem)) (opened .seatForEach) 0 (omega arith)))
       (sym no-step-total) refl
 
   -- ---- one step
@@ -64,18 +68,14 @@ module _ (ps : List ℕ) (H : ℕ) (opens : openRefusal ps H ≡ accepted) where
 
   total-is-house : (m : ℕ) → m ≤ gap ps H → eqb (totalAfter ps H m) H ≡ eqb m (gap ps H)
   unfolding totalAfter gap distance
-  total-is-house m few = by-direction (ltb (startTotal ps H) H) refl (eqb m (gap ps H)) refl
-    where
-      by-direction : (t : Bool) → ltb (startTotal ps H) H ≡ t → (u : Bool) → eqb m (gap ps H) ≡ u
-          → eqb (totalAfter ps H m) H ≡ eqb m (gap ps H)
-      by-direction true e true u =
-          rw (e, u) (eq-eqb (startTotal ps H + m) H (omega (arith, ltb-true (startTotal ps H) H e, eqb-true m (gap ps H) u)))
-      by-direction true e false u =
-          rw (e, u) (ne-eqb (startTotal ps H + m) H (λ q. eqb-false m (gap ps H) u (omega (arith, ltb-true (startTotal ps H) H e, few, q))))
-      by-direction false e true u =
-          rw (e, u) (eq-eqb (startTotal ps H - m) H (omega (arith, ltb-false (startTotal ps H) H e, eqb-true m (gap ps H) u)))
-      by-direction false e false u =
-          rw (e, u) (ne-eqb (startTotal ps H - m) H (λ q. eqb-false m (gap ps H) u (omega (arith, ltb-false (startTotal ps H) H e, few, q))))
+  total-is-house m few =
+      either-way (ltb (startTotal ps H) H)
+      (λ up.
+      let below = ltb-true (startTotal ps H) H up in
+      rw up (same-equality _ H m (gap ps H) (λ q. omega (arith, below, few, q)) (λ q. omega (arith, below, q))))
+      (λ down.
+      let above = ltb-false (startTotal ps H) H down in
+      rw down (same-equality _ H m (gap ps H) (λ q. omega (arith, above, few, q)) (λ q. omega (arith, above, q))))
 
   -- A step before the house leads to the next placing, and is not refused.
   pub step-before-house : (m : ℕ) → m < gap ps H

@@ -1,19 +1,18 @@
 -- `sizes::size_of` meets its contract: the products fit, since population, seats, sum and house are within their limits.
 -- Assumes nothing.
-use Rattle.sizes.specs.inner.Sizes.{size-is}
+use Rattle.sizes.specs.inner.Sizes.{size-is, share-fits}
 use Rattle.apportionment.specs.Limits.{houseLimit, sumLimit}
 use Rattle.claims.specs.inner.MachineWords.{product-fits}
-use native.Mathlib.Nat.{le-trans}
 use Prim.Native.Nat.{_+_}
 use borrow.Author.Needs.{needs}
 use Rattle.sizes.proofs.size_of.Statement.{statement}
 use Rattle.sizes.proofs.size_of.Tie as tie
 
 mul-distance-of : tie.Need-mul-distance-of
-mul-distance-of c = product-fits sumLimit houseLimit (le-trans (c .pre .people) (c .pre .sumFits)) (c .pre .houseFits) tt
+mul-distance-of c = share-fits (c .pre .state)
 
 mul-distance-of-2 : tie.Need-mul-distance-of-2
-mul-distance-of-2 c = product-fits (houseLimit + 1) sumLimit (c .pre .seatsFit) (c .pre .sumFits) tt
+mul-distance-of-2 c = product-fits (houseLimit + 1) sumLimit (c .pre .seatsWithin) (c .pre .state .sumWithin) tt
 
 distance-of-requires : tie.Need-distance-of-requires
 distance-of-requires c κs = search needs

@@ -1,34 +1,27 @@
--- What comparing claims by quotients asks, and that it holds of seats on their way from the start.
+-- What comparing claims by quotients asks, that it gives their order, and that the products fit.
 -- Assumes nothing.
 use mathlib.Core.Path.{_≡_}
-use Prim.Native.Nat.{ℕ, _+_, _*_, _<_, _≤_}
+use Prim.Native.Nat.{ℕ, _+_, _*_, _≤_}
 use native.Mathlib.Nat.{le-trans, mul-le-mul}
 use Rattle.apportionment.specs.Limits.{houseLimit, sumLimit}
 use Rattle.claims.specs.inner.SizeClaims.{sizeBefore}
-use Rattle.claims.specs.inner.SizeOrder.{people}
 use Rattle.claims.specs.inner.SizeQuotients.{Climbs, climbsBefore, climbs-by-quotient}
 use Rattle.claims.specs.inner.SizeQuotients.{Falls, fallsBefore, falls-by-quotient}
-use Rattle.sizes.specs.inner.Sizes.{Measured, measured}
+use Rattle.sizes.specs.inner.Sizes.{WithSeats}
 
--- A claim that can be compared.
-pub record Claimed (p a P H : ℕ) : Type 0 where
-  pub measured : Measured p (a + 1) P H
-  pub peopled : 0 < P
-  pub someSeat : 0 < H
+-- A claim to a seat that fits, at or above the start; and below it.
+abbrev pub ClimbingClaim : (p a P H : ℕ) → Type 0
+ClimbingClaim p a P H = WithSeats p (a + 1) P H × Climbs p P H a
 
--- The same at or above the start, and below it.
-abbrev pub Climbing : (p a P H : ℕ) → Type 0
-Climbing p a P H = Claimed p a P H × Climbs p P H a
+abbrev pub FallingClaim : (p a P H : ℕ) → Type 0
+FallingClaim p a P H = WithSeats p (a + 1) P H × Falls p P H a
 
-abbrev pub Falling : (p a P H : ℕ) → Type 0
-Falling p a P H = Claimed p a P H × Falls p P H a
+pub climbs-compared : {p a q b P H : ℕ} → ClimbingClaim p a P H → ClimbingClaim q b P H → sizeBefore P H p a q b ≡ climbsBefore P H p a q b
+climbs-compared {p} {a} {q} {b} (k, c) (l, d) = climbs-by-quotient (k .state .peopled) (k .state .someSeat) p a q b c d
 
-pub climbs-compared : {p a q b P H : ℕ} → Climbing p a P H → Climbing q b P H → sizeBefore P H p a q b ≡ climbsBefore P H p a q b
-climbs-compared {p} {a} {q} {b} (k, c) (l, d) = climbs-by-quotient (k .peopled) (k .someSeat) p a q b c d
-
-pub falls-compared : {p a q b P H : ℕ} → Falling p a P H → Falling q b P H → sizeBefore P H p a q b ≡ fallsBefore P H p a q b
-falls-compared {p} {a} {q} {b} (k, c) (l, d) = falls-by-quotient (k .peopled) (k .someSeat) p a q b c d
+pub falls-compared : {p a q b P H : ℕ} → FallingClaim p a P H → FallingClaim q b P H → sizeBefore P H p a q b ≡ fallsBefore P H p a q b
+falls-compared {p} {a} {q} {b} (k, c) (l, d) = falls-by-quotient (k .state .peopled) (k .state .someSeat) p a q b c d
 
 -- The products by which quotients are compared are far below the limit of words.
-pub products-fit : {p a q b P H : ℕ} → Claimed p a P H → Claimed q b P H → p * (b + 1) ≤ sumLimit * (houseLimit + 1)
-products-fit c d = mul-le-mul (le-trans (c .measured .people) (c .measured .sumFits)) (d .measured .seatsFit)
+pub products-fit : {p a q b P H : ℕ} → WithSeats p a P H → WithSeats q b P H → p * b ≤ sumLimit * (houseLimit + 1)
+products-fit c d = mul-le-mul (le-trans (c .state .people) (c .state .sumWithin)) (d .seatsWithin)

@@ -6,6 +6,7 @@ use mathlib.Core.Path.{_≡_, sym, _∙_}
 use Prim.Native.Nat.{_≤_, _-_}
 use native.Mathlib.Omega.{arith}
 use native.Mathlib.Nat.{le-antisymm}
+use Rattle.leximin.specs.inner.Sided.{sided-long}
 use Rattle.leximin.specs.inner.Moves.{movedTimes, none-moved, one-more-moved, moved-sided, movable-sided}
 use Rattle.leximin.proofs.moves.move_by_scans.Statement.{statement}
 use Rattle.leximin.proofs.moves.move_by_scans.Tie as tie
@@ -36,13 +37,14 @@ loop-again c =
     let at-move-once = c .before .before in
     let at-loop-test = at-move-once .before .before in
     let at-loop = at-loop-test .before in
-    (omega (arith, at-loop-test .loop-test .taken), at-move-once .move-once .ensures ∙ rw (one-more-moved, at-loop .loop .inv .1))
+    (omega (arith, at-loop-test .loop-test .taken), rw (one-more-moved, ← at-loop .loop .inv .1) (at-move-once .move-once .ensures))
 
 same-length : tie.Need-same-length Inv-loop μ-loop
 same-length c =
     let start = c .before .before .before .before in
-    rw (c .before .loop .inv .1) (moved-sided _ (start .pre) (c .before .loop .done) (c .before .loop .inv .0) .seated .workable .states
-    ∙ sym (movable-sided (start .pre) .seated .workable .states))
+    rw (c .before .loop .inv .1)
+    (sided-long (moved-sided _ (start .pre) (c .before .loop .done) (c .before .loop .inv .0))
+    ∙ sym (sided-long (movable-sided (start .pre))))
 
 returns : tie.Need-returns Inv-loop μ-loop
 returns c = rw (le-antisymm (c .loop-test .left) (c .before .loop .inv .0)) (c .before .loop .inv .1)

@@ -6,6 +6,7 @@ use mathlib.Core.Path.{sym, _∙_}
 use Prim.Native.Nat.{_≤_, _-_}
 use native.Mathlib.Omega.{arith}
 use native.Mathlib.Nat.{le-antisymm}
+use Rattle.leximin.specs.inner.Sided.{sided-long}
 use Rattle.leximin.specs.inner.Moves.{Moving, none-moved, movable-sided, moving-sided}
 use Rattle.leximin.specs.inner.Moves.{root-inside, root-has-seats, root-moved, root-due}
 use Rattle.leximin.proofs.moves.move_by_tournament.Statement.{statement}
@@ -31,7 +32,7 @@ slice-read-wide c =
     let at-loop = c .before .before in
     let at-build-arg = at-loop .before .before .before .before .before in
     let start = at-build-arg .before .before .before .before in
-    omega (arith, at-loop .loop .inv .1 .winners .size, start .pre .0 .ready .problem .someState)
+    omega (arith, at-loop .loop .inv .1 .winners .size, start .pre .0 .problem .states .someState)
 
 wide-requires : tie.Need-wide-requires Inv-loop μ-loop
 wide-requires c κs = search needs
@@ -41,7 +42,7 @@ mul-moved-by c =
     let at-loop = c .before .before .before in
     let at-build-arg = at-loop .before .before .before .before .before in
     let start = at-build-arg .before .before .before .before in
-    omega (arith, root-inside (start .pre .0) (at-loop .loop .inv .1) (c .wide .ensures), start .pre .0 .ready .problem .statesWithin)
+    omega (arith, root-inside (start .pre .0) (at-loop .loop .inv .1) (c .wide .ensures), start .pre .0 .problem .states .statesWithin)
 
 slice-read-moved-by : tie.Need-slice-read-moved-by Inv-loop μ-loop
 slice-read-moved-by c =
@@ -57,7 +58,7 @@ moved-by-requires c κs =
     let start = at-build-arg .before .before .before .before in
     let now = moving-sided (start .pre .0) (at-loop .loop .inv .1) (at-loop .loop .inv .0) in
     let inside = root-inside (start .pre .0) (at-loop .loop .inv .1) (c .before .wide .ensures) in
-    (now .seated .least _ inside, now .seated .workable .seatsFit _)
+    (now .seated .least _ inside, now .seated .bounded .seatsWithin _)
 
 mul-seats : tie.Need-mul-seats Inv-loop μ-loop
 mul-seats c =
@@ -65,7 +66,8 @@ mul-seats c =
     let at-loop = at-wide .before .before .before in
     let at-build-arg = at-loop .before .before .before .before .before in
     let start = at-build-arg .before .before .before .before in
-    omega (arith, root-inside (start .pre .0) (at-loop .loop .inv .1) (at-wide .wide .ensures), start .pre .0 .ready .problem .statesWithin)
+    let inside = root-inside (start .pre .0) (at-loop .loop .inv .1) (at-wide .wide .ensures) in
+    omega (arith, inside, start .pre .0 .problem .states .statesWithin)
 
 slice-write-seats : tie.Need-slice-write-seats Inv-loop μ-loop
 slice-write-seats c =
@@ -114,8 +116,8 @@ same-length : tie.Need-same-length Inv-loop μ-loop
 same-length c =
     let at-build-arg2 = c .before .before .before .before .before in
     let start = at-build-arg2 .before .before .before .before .before in
-    moving-sided (start .pre .0) (c .before .loop .inv .1) (c .before .loop .inv .0) .seated .workable .states
-    ∙ sym (movable-sided (start .pre .0) .seated .workable .states)
+    sided-long (moving-sided (start .pre .0) (c .before .loop .inv .1) (c .before .loop .inv .0))
+    ∙ sym (sided-long (movable-sided (start .pre .0)))
 
 same-length-2 : tie.Need-same-length-2 Inv-loop μ-loop
 same-length-2 c =

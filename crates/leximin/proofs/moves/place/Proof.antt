@@ -26,7 +26,7 @@ slice-read-seats c =
 add-seats : tie.Need-add-seats
 add-seats c =
     let start = c .before .before .before .before .before in
-    omega (arith, start .pre .seatsFit (c .before .first-unmet .result))
+    omega (arith, start .pre .seatsWithin (c .before .first-unmet .result))
 
 mul-seats-2 : tie.Need-mul-seats-2
 mul-seats-2 c =

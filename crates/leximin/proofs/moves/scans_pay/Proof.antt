@@ -1,4 +1,4 @@
--- `leximin::moves::scans_pay` is safe: a part of 32 is at most 32.
+-- `leximin::moves::scans_pay` is safe: a part of a number is at most the number.
 -- Assumes nothing.
 use native.Mathlib.Omega.{arith}
 use native.Mathlib.Nat.{div-le-self}

@@ -15,13 +15,13 @@ last-met-requires c κs = search needs
 mul-seats : tie.Need-mul-seats
 mul-seats c =
     scaled-fits _ _ 8
-    (met-inside (c .before .before .before .before .pre .workable) (c .last-met .ensures))
+    (met-inside (c .before .before .before .before .pre .bounded) (c .last-met .ensures))
     (c .before .before .before .before .good .1 .0 .1)
 
 slice-read-seats : tie.Need-slice-read-seats
 slice-read-seats c =
     let start = c .before .before .before .before .before in
-    met-inside (start .pre .workable) (c .before .last-met .ensures)
+    met-inside (start .pre .bounded) (c .before .last-met .ensures)
 
 sub-seats : tie.Need-sub-seats
 sub-seats c =
@@ -29,18 +29,18 @@ sub-seats c =
     omega (
       arith,
       start .pre .least (c .before .last-met .result)
-          (rw (start .pre .workable .states) at (met-inside (start .pre .workable) (c .before .last-met .ensures))),
+          (rw (start .pre .bounded .fillable .sameLength) at (met-inside (start .pre .bounded) (c .before .last-met .ensures))),
     )
 
 mul-seats-2 : tie.Need-mul-seats-2
 mul-seats-2 c =
     let start = c .before .before .before .before .before in
-    scaled-fits _ _ 8 (met-inside (start .pre .workable) (c .before .last-met .ensures)) (start .good .1 .0 .1)
+    scaled-fits _ _ 8 (met-inside (start .pre .bounded) (c .before .last-met .ensures)) (start .good .1 .0 .1)
 
 slice-write-seats : tie.Need-slice-write-seats
 slice-write-seats c =
     let start = c .before .before .before .before .before in
-    met-inside (start .pre .workable) (c .before .last-met .ensures)
+    met-inside (start .pre .bounded) (c .before .last-met .ensures)
 
 same-length : tie.Need-same-length
 same-length c = search needs

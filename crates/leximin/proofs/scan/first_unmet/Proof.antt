@@ -1,7 +1,7 @@
 -- `leximin::scan::first_unmet` meets its contract: the candidate is the theory's first place of those looked at, with its claim; one
 -- place more is one step of that definition.
 -- Assumes nothing.
-use native.Mathlib.Nat.{le-antisymm}
+use native.Mathlib.Nat.{le-antisymm, le-refl}
 use mathlib.Core.Path.{refl}
 use borrow.Author.Needs.{needs}
 use Prim.Native.Nat.{_<_, _≤_, _-_}
@@ -10,8 +10,7 @@ use native.Mathlib.Omega.{arith}
 use Rattle.apportionment.specs.Lists.{firstPlace}
 use Rattle.claims.specs.inner.Order.{wantsBefore, firstUnmet}
 use Rattle.claims.specs.inner.SizeClaims.{sizeTest}
-use Rattle.leximin.specs.inner.Scan.{CandidateIs, better-next}
-use Rattle.sizes.specs.inner.Sizes.{counted, measured}
+use Rattle.leximin.specs.inner.Scan.{CandidateIs, candidate-next, state-with}
 use Rattle.leximin.proofs.scan.first_unmet.Statement.{statement}
 use Rattle.leximin.proofs.scan.first_unmet.Tie as tie
 
@@ -23,43 +22,40 @@ Inv-loop populations seats total house best₀ i₀ best i =
 abbrev μ-loop : tie.MeasureT-loop
 μ-loop populations seats total house best₀ i₀ best i = length populations - i
 
-shared-slice-read-move-of : tie.Need-shared-slice-read-move-of Inv-loop μ-loop
-shared-slice-read-move-of c = search needs
+shared-slice-read-claim-of : tie.Need-shared-slice-read-claim-of Inv-loop μ-loop
+shared-slice-read-claim-of c = search needs
 
-shared-slice-read-move-of-2 : tie.Need-shared-slice-read-move-of-2 Inv-loop μ-loop
-shared-slice-read-move-of-2 c = search needs
+shared-slice-read-claim-of-2 : tie.Need-shared-slice-read-claim-of-2 Inv-loop μ-loop
+shared-slice-read-claim-of-2 c = search needs
 
-move-of-requires : tie.Need-move-of-requires Inv-loop μ-loop
-move-of-requires c κs =
-    measured
-    (counted (c .before .before .before .before .pre .counts) 0)
-    (omega (arith, c .before .before .before .before .pre .seatsFit 0))
+claim-of-requires : tie.Need-claim-of-requires Inv-loop μ-loop
+claim-of-requires c κs = state-with (c .before .before .before .before .pre) 0 (le-refl _)
 
 loop-holds : tie.Need-loop-holds Inv-loop μ-loop
 unfolding firstPlace
-loop-holds c = (search needs, search needs, record { place = refl; claim = c .move-of .ensures })
+loop-holds c = (search needs, search needs, record { place = refl; claim = c .claim-of .ensures })
 
-mul-move-of : tie.Need-mul-move-of Inv-loop μ-loop
-mul-move-of c = search needs
+mul-claim-of : tie.Need-mul-claim-of Inv-loop μ-loop
+mul-claim-of c = search needs
 
-shared-slice-read-move-of-3 : tie.Need-shared-slice-read-move-of-3 Inv-loop μ-loop
-shared-slice-read-move-of-3 c = search needs
+shared-slice-read-claim-of-3 : tie.Need-shared-slice-read-claim-of-3 Inv-loop μ-loop
+shared-slice-read-claim-of-3 c = search needs
 
-mul-move-of-2 : tie.Need-mul-move-of-2 Inv-loop μ-loop
-mul-move-of-2 c = search needs
+mul-claim-of-2 : tie.Need-mul-claim-of-2 Inv-loop μ-loop
+mul-claim-of-2 c = search needs
 
-shared-slice-read-move-of-4 : tie.Need-shared-slice-read-move-of-4 Inv-loop μ-loop
-shared-slice-read-move-of-4 c = search needs
+shared-slice-read-claim-of-4 : tie.Need-shared-slice-read-claim-of-4 Inv-loop μ-loop
+shared-slice-read-claim-of-4 c = search needs
 
-move-of-requires-2 : tie.Need-move-of-requires-2 Inv-loop μ-loop
-move-of-requires-2 c κs =
+claim-of-requires-2 : tie.Need-claim-of-requires-2 Inv-loop μ-loop
+claim-of-requires-2 c κs =
     let at-loop = c .before .before .before in
     let past = at-loop .before .before .before .before .before in
     let start = past .before in
-    measured (counted (start .pre .counts) (at-loop .loop .i)) (omega (arith, start .pre .seatsFit (at-loop .loop .i)))
+    state-with (start .pre) (at-loop .loop .i) (le-refl _)
 
-better-requires : tie.Need-better-requires Inv-loop μ-loop
-better-requires c κs = (c .before .before .before .before .loop .inv .2 .claim .small, c .move-of2 .ensures .small)
+better-candidate-requires : tie.Need-better-candidate-requires Inv-loop μ-loop
+better-candidate-requires c κs = (c .before .before .before .before .loop .inv .2 .claim .small, c .claim-of2 .ensures .small)
 
 add-i : tie.Need-add-i Inv-loop μ-loop
 add-i c =
@@ -79,9 +75,9 @@ loop-again c =
     let start = past .before in (
       omega arith,
       omega (arith, at-test .loop-test .taken),
-      rw (c .better .ensures)
-          (better-next _ _ _ _ (start .pre .counts) (at-loop .loop .i) (at-loop .loop .inv .0) (at-loop .loop .inv .2)
-          (c .before .move-of2 .ensures)),
+      rw (c .better-candidate .ensures)
+          (candidate-next _ _ _ _ (start .pre .fillable .problem) (at-loop .loop .i) (at-loop .loop .inv .0) (at-loop .loop .inv .2)
+          (c .before .claim-of2 .ensures)),
     )
 
 returns : tie.Need-returns Inv-loop μ-loop
@@ -94,16 +90,16 @@ first-unmet-spec =
     (tie.spec
     Inv-loop
     μ-loop
-    shared-slice-read-move-of
-    shared-slice-read-move-of-2
-    move-of-requires
+    shared-slice-read-claim-of
+    shared-slice-read-claim-of-2
+    claim-of-requires
     loop-holds
-    mul-move-of
-    shared-slice-read-move-of-3
-    mul-move-of-2
-    shared-slice-read-move-of-4
-    move-of-requires-2
-    better-requires
+    mul-claim-of
+    shared-slice-read-claim-of-3
+    mul-claim-of-2
+    shared-slice-read-claim-of-4
+    claim-of-requires-2
+    better-candidate-requires
     add-i
     loop-less
     loop-again

@@ -9,8 +9,7 @@ use native.Mathlib.Nat.{le-antisymm}
 use Rattle.apportionment.specs.Lists.{firstPlace}
 use Rattle.claims.specs.inner.Order.{givesUpBefore, lastMet}
 use Rattle.claims.specs.inner.SizeClaims.{sizeTest, oneEach}
-use Rattle.leximin.specs.inner.Scan.{GiverIs, prefer-next}
-use Rattle.sizes.specs.inner.Sizes.{counted, measured}
+use Rattle.leximin.specs.inner.Scan.{GiverIs, giver-next, state-with}
 use Rattle.leximin.proofs.scan.last_met.Statement.{statement}
 use Rattle.leximin.proofs.scan.last_met.Tie as tie
 
@@ -29,12 +28,9 @@ shared-slice-read-giver-of-2 : tie.Need-shared-slice-read-giver-of-2 Inv-loop μ
 shared-slice-read-giver-of-2 c = search needs
 
 giver-of-requires : tie.Need-giver-of-requires Inv-loop μ-loop
-giver-of-requires c κs = (
-  measured
-      (counted (c .before .before .before .before .pre .workable .counts) 0)
-      (omega (arith, c .before .before .before .before .pre .workable .seatsFit 0)),
-  c .before .before .before .before .pre .least 0 (c .before .before .before .before .pre .workable .someState),
-)
+giver-of-requires c κs =
+    let start = c .before .before .before .before in
+    (state-with (start .pre .bounded) 0 (omega arith), start .pre .least 0 (start .pre .bounded .fillable .problem .states .someState))
 
 loop-holds : tie.Need-loop-holds Inv-loop μ-loop
 unfolding firstPlace
@@ -57,15 +53,11 @@ giver-of-requires-2 c κs =
     let at-test = c .before .before in
     let at-loop = at-test .before in
     let past = at-loop .before .before .before .before .before in
-    let start = past .before in (
-      measured
-          (counted (start .pre .workable .counts) (at-loop .loop .i))
-          (omega (arith, start .pre .workable .seatsFit (at-loop .loop .i))),
-      start .pre .least (at-loop .loop .i) (at-test .loop-test .taken),
-    )
+    let start = past .before in
+    (state-with (start .pre .bounded) (at-loop .loop .i) (omega arith), start .pre .least (at-loop .loop .i) (at-test .loop-test .taken))
 
-prefer-requires : tie.Need-prefer-requires Inv-loop μ-loop
-prefer-requires c κs = (c .before .before .before .before .loop .inv .2 .claim .small, c .giver-of2 .ensures .claim .small)
+better-giver-requires : tie.Need-better-giver-requires Inv-loop μ-loop
+better-giver-requires c κs = (c .before .before .before .before .loop .inv .2 .claim .small, c .giver-of2 .ensures .claim .small)
 
 add-i : tie.Need-add-i Inv-loop μ-loop
 add-i c =
@@ -85,8 +77,8 @@ loop-again c =
     let start = past .before in (
       omega arith,
       omega (arith, at-test .loop-test .taken),
-      rw (c .prefer .ensures)
-          (prefer-next _ _ _ _ (start .pre .workable .counts) (at-loop .loop .i) (at-loop .loop .inv .0) (at-loop .loop .inv .2)
+      rw (c .better-giver .ensures)
+          (giver-next _ _ _ _ (start .pre .bounded .fillable .problem) (at-loop .loop .i) (at-loop .loop .inv .0) (at-loop .loop .inv .2)
           (c .before .giver-of2 .ensures)),
     )
 
@@ -109,7 +101,7 @@ last-met-spec =
     mul-giver-of-2
     shared-slice-read-giver-of-4
     giver-of-requires-2
-    prefer-requires
+    better-giver-requires
     add-i
     loop-less
     loop-again

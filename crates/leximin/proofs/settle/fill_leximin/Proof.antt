@@ -20,7 +20,7 @@ move-times-requires c κs =
     let at-total-of = c .before .before in
     let at-fill-start = at-total-of .before .before .before .before in
     let start = at-fill-start .before .before .before .before in
-    can-place (start .pre .0) (at-fill-start .fill-start .ensures) (at-total-of .total-of .ensures) (c .before .if1 .taken)
+    can-place (start .pre .0 .problem) (at-fill-start .fill-start .ensures) (at-total-of .total-of .ensures) (c .before .if1 .taken)
 
 sub-result : tie.Need-sub-result
 sub-result c = search needs
@@ -35,7 +35,7 @@ returns c =
     let at-total-of = at-if1 .before in
     let at-fill-start = at-total-of .before .before .before .before in
     let start = at-fill-start .before .before .before .before in
-    placed-settled (start .pre .0) (at-fill-start .fill-start .ensures) (at-total-of .total-of .ensures) (start .pre .1)
+    placed-settled (start .pre .0 .problem) (at-fill-start .fill-start .ensures) (at-total-of .total-of .ensures) (start .pre .1)
     (at-if1 .if1 .taken) (at-move-times .move-times .ensures)
 
 move-times-requires-2 : tie.Need-move-times-requires-2
@@ -43,7 +43,7 @@ move-times-requires-2 c κs =
     let at-total-of = c .before .before in
     let at-fill-start = at-total-of .before .before .before .before in
     let start = at-fill-start .before .before .before .before in
-    can-withdraw (start .pre .0) (at-fill-start .fill-start .ensures) (at-total-of .total-of .ensures) (start .pre .1)
+    can-withdraw (start .pre .0 .problem) (at-fill-start .fill-start .ensures) (at-total-of .total-of .ensures) (start .pre .1)
     (c .before .if1 .left)
 
 same-length-2 : tie.Need-same-length-2
@@ -56,7 +56,7 @@ returns-2 c =
     let at-total-of = at-if1 .before in
     let at-fill-start = at-total-of .before .before .before .before in
     let start = at-fill-start .before .before .before .before in
-    withdrawn-settled (start .pre .0) (at-fill-start .fill-start .ensures) (at-total-of .total-of .ensures) (start .pre .1)
+    withdrawn-settled (start .pre .0 .problem) (at-fill-start .fill-start .ensures) (at-total-of .total-of .ensures) (start .pre .1)
     (at-if1 .if1 .left) (at-move-times2 .move-times2 .ensures)
 
 pub fill-leximin-spec : {M : Type 1} → statement M

@@ -1,28 +1,26 @@
 -- `leximin::start::fill_start` meets its contract: every place passed holds its state's nearest seats, and a list that does so at every
 -- place is the start.
 -- Assumes nothing.
-use Rattle.sizes.specs.inner.Sizes.{filled-next}
+use Rattle.apportionment.specs.inner.Filling.{FilledTo, fill-starts, fill-goes-on, fill-ends}
 use borrow.Author.Needs.{needs}
-use Prim.Native.Nat.{ℕ, _<_, _≤_, _-_}
-use lib.ListN.{length, getD, length-set}
-use native.Mathlib.Omega.{arith}
-use mathlib.Core.Path.{_≡_}
+use Prim.Native.Nat.{ℕ, _-_}
+use lib.ListN.{length, getD}
+use mathlib.Core.Path.{_∙_}
 use Rattle.claims.specs.inner.SizeClaims.{nearestRounded}
-use Rattle.sizes.specs.inner.Sizes.{counted}
-use Rattle.leximin.specs.inner.Start.{ready-counts, start-at-every-place}
+use Rattle.sizes.specs.inner.Sizes.{state-at}
+use Rattle.leximin.specs.inner.Start.{start-is-rounded}
 use Rattle.leximin.proofs.start.fill_start.Statement.{statement}
 use Rattle.leximin.proofs.start.fill_start.Tie as tie
 
 abbrev Inv-loop : tie.InvT-loop
 Inv-loop populations total house seats₀ i₀ seats i =
-    (i ≤ length populations) × (length seats ≡ length populations) ×
-    ((k : ℕ) → k < i → getD seats k 0 ≡ nearestRounded (getD populations k 0) total house)
+    FilledTo (λ (k : ℕ). nearestRounded (getD populations k 0) total house) (length populations) i seats
 
 abbrev μ-loop : tie.MeasureT-loop
 μ-loop populations total house seats₀ i₀ seats i = length populations - i
 
 loop-holds : tie.Need-loop-holds Inv-loop μ-loop
-loop-holds c = search needs
+loop-holds c = fill-starts _ _ _ (c .before .before .pre .sameLength)
 
 mul-nearest-seats : tie.Need-mul-nearest-seats Inv-loop μ-loop
 mul-nearest-seats c = search needs
@@ -34,7 +32,7 @@ nearest-seats-requires : tie.Need-nearest-seats-requires Inv-loop μ-loop
 nearest-seats-requires c κs =
     let at-loop = c .before .before in
     let start = at-loop .before .before .before in
-    counted (ready-counts (start .pre .0)) (at-loop .loop .i)
+    state-at (start .pre .problem) (at-loop .loop .i)
 
 mul-seats : tie.Need-mul-seats Inv-loop μ-loop
 mul-seats c = search needs
@@ -51,24 +49,14 @@ loop-less c = search needs
 loop-again : tie.Need-loop-again Inv-loop μ-loop
 loop-again c =
     let at-test = c .before .before in
-    let at-loop = at-test .before in
-    let start = at-loop .before .before .before in (
-      omega (arith, at-test .loop-test .taken),
-      simp length-set (at-loop .loop .inv .1),
-      filled-next
-          (λ (k : ℕ). nearestRounded (getD (start .args .populations .now) k 0) (start .args .total) (start .args .house))
-          (at-loop .loop .seats) (at-loop .loop .i) (c .nearest-seats .result)
-          (omega (arith, at-test .loop-test .taken, at-loop .loop .inv .1)) (c .nearest-seats .ensures) (at-loop .loop .inv .2),
-    )
+    fill-goes-on _ _ _ _ _ (at-test .loop-test .taken) (c .nearest-seats .ensures) (at-test .before .loop .inv)
 
 same-length : tie.Need-same-length Inv-loop μ-loop
 same-length c = search needs
 
 returns : tie.Need-returns Inv-loop μ-loop
 returns c =
-    start-at-every-place
-    (c .before .before .before .before .pre .0) _ (c .before .loop .inv .1)
-    (λ k h. c .before .loop .inv .2 k (omega (arith, h, c .loop-test .left)))
+    fill-ends _ _ _ _ (c .loop-test .left) (c .before .loop .inv) ∙ start-is-rounded (c .before .before .before .before .pre .problem)
 
 pub fill-start-spec : {M : Type 1} → statement M
 fill-start-spec =

@@ -1,20 +1,17 @@
 -- `leximin::start::nearest_seats` meets its contract: each return is a case of the definition, and sizes without their common factor are
 -- ordered as the exact ones.
 -- Assumes nothing.
-use mathlib.Core.Path.{sym, _∙_}
 use native.Mathlib.Omega.{arith}
-use native.Mathlib.Nat.{le-trans}
-use borrow.Author.Tests.{eq-eqb, ne-eqb}
-use Rattle.apportionment.specs.Limits.{houseLimit, sumLimit}
+use borrow.Author.Tests.{eq-eqb}
 use Rattle.claims.specs.inner.SizeClaims.{nearestRounded}
-use Rattle.claims.specs.inner.MachineWords.{product-fits}
-use Rattle.sizes.specs.inner.Sizes.{whole-at-most-house, measured, size-order-kept}
+use Rattle.sizes.specs.inner.Sizes.{whole-at-most-house, share-fits}
+use Rattle.leximin.specs.inner.Start.{rounded-compared}
 use borrow.Author.Needs.{needs}
 use Rattle.leximin.proofs.start.nearest_seats.Statement.{statement}
 use Rattle.leximin.proofs.start.nearest_seats.Tie as tie
 
 mul-whole : tie.Need-mul-whole
-mul-whole c = product-fits sumLimit houseLimit (le-trans (c .pre .people) (c .pre .sumFits)) (c .pre .houseFits) tt
+mul-whole c = share-fits (c .pre)
 
 div-whole : tie.Need-div-whole
 div-whole c = search needs
@@ -24,15 +21,16 @@ unfolding nearestRounded
 returns c = simp (eq-eqb _ _ (c .if1 .taken))
 
 add-size-of : tie.Need-add-size-of
-add-size-of c = omega (arith, whole-at-most-house (c .before .pre), c .before .pre .houseFits)
+add-size-of c = omega (arith, whole-at-most-house (c .before .pre), c .before .pre .houseWithin)
 
 size-of-requires : tie.Need-size-of-requires
-size-of-requires c κs = measured (c .before .pre) (omega (arith, whole-at-most-house (c .before .pre), c .before .pre .houseFits))
+size-of-requires c κs =
+    record { state = c .before .pre; seatsWithin = omega (arith, whole-at-most-house (c .before .pre), c .before .pre .houseWithin) }
 
 size-of-requires-2 : tie.Need-size-of-requires-2
 size-of-requires-2 c κs =
-    measured (c .before .before .pre)
-    (omega (arith, whole-at-most-house (c .before .before .pre), c .before .before .pre .houseFits))
+    let start = c .before .before in
+    record { state = start .pre; seatsWithin = omega (arith, whole-at-most-house (start .pre), start .pre .houseWithin) }
 
 size-less-requires : tie.Need-size-less-requires
 size-less-requires c κs = (c .before .size-of .ensures .small, c .size-of2 .ensures .small)
@@ -40,38 +38,28 @@ size-less-requires c κs = (c .before .size-of .ensures .small, c .size-of2 .ens
 add-result : tie.Need-add-result
 add-result c =
     let start = c .before .before .before .before .before in
-    omega (arith, whole-at-most-house (start .pre), start .pre .houseFits)
+    omega (arith, whole-at-most-house (start .pre), start .pre .houseWithin)
 
 returns-2 : tie.Need-returns-2
-unfolding nearestRounded
 returns-2 c =
     let at-size-of2 = c .before .before in
     let at-size-of = at-size-of2 .before in
     let at-if1 = at-size-of .before in
-    let start = at-if1 .before in
-    simp (
-      ne-eqb _ _ (at-if1 .if1 .left),
-      ← size-order-kept,
-      start .pre .peopled,
-      ← at-size-of .size-of .ensures .is,
-      ← at-size-of2 .size-of2 .ensures .is,
-      sym (c .before .size-less .ensures) ∙ c .if2 .taken,
+    rw (
+      rounded-compared (at-if1 .before .pre) (at-if1 .if1 .left) (at-size-of .size-of .ensures) (at-size-of2 .size-of2 .ensures),
+      ← c .before .size-less .ensures,
+      c .if2 .taken,
     )
 
 returns-3 : tie.Need-returns-3
-unfolding nearestRounded
 returns-3 c =
     let at-size-of2 = c .before .before in
     let at-size-of = at-size-of2 .before in
     let at-if1 = at-size-of .before in
-    let start = at-if1 .before in
-    simp (
-      ne-eqb _ _ (at-if1 .if1 .left),
-      ← size-order-kept,
-      start .pre .peopled,
-      ← at-size-of .size-of .ensures .is,
-      ← at-size-of2 .size-of2 .ensures .is,
-      sym (c .before .size-less .ensures) ∙ c .if2 .left,
+    rw (
+      rounded-compared (at-if1 .before .pre) (at-if1 .if1 .left) (at-size-of .size-of .ensures) (at-size-of2 .size-of2 .ensures),
+      ← c .before .size-less .ensures,
+      c .if2 .left,
     )
 
 pub nearest-seats-spec : {M : Type 1} → statement M

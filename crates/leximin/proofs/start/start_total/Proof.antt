@@ -8,8 +8,8 @@ use native.Mathlib.Omega.{arith}
 use native.Mathlib.Nat.{zero-add}
 use Rattle.apportionment.specs.Leximin.{startSeats, startTotal}
 use Rattle.apportionment.specs.Lists
-use Rattle.sizes.specs.inner.Sizes.{counted}
-use Rattle.leximin.specs.inner.Start.{ready-counts, start-sum-next, start-sum-end, start-total-fits}
+use Rattle.sizes.specs.inner.Sizes.{state-at}
+use Rattle.leximin.specs.inner.Start.{start-sum-next, start-sum-end, start-total-fits}
 use Rattle.leximin.proofs.start.start_total.Statement.{statement}
 use Rattle.leximin.proofs.start.start_total.Tie as tie
 
@@ -31,7 +31,7 @@ shared-slice-read-nearest-seats : tie.Need-shared-slice-read-nearest-seats Inv-l
 shared-slice-read-nearest-seats c = search needs
 
 nearest-seats-requires : tie.Need-nearest-seats-requires Inv-loop μ-loop
-nearest-seats-requires c κs = counted (ready-counts (c .before .before .before .before .pre)) (c .before .before .loop .i)
+nearest-seats-requires c κs = state-at (c .before .before .before .before .pre) (c .before .before .loop .i)
 
 add-sum : tie.Need-add-sum Inv-loop μ-loop
 add-sum c =

@@ -2,7 +2,7 @@
 -- deciding it makes `k` right.
 -- Assumes nothing.
 use borrow.Author.Needs.{needs}
-use mathlib.Core.Path.{_≡_, sym, _∙_}
+use mathlib.Core.Path.{sym, _∙_}
 use Prim.Native.Nat.{_<_}
 use lib.ListN.{length}
 use native.Mathlib.Omega.{arith}
@@ -28,31 +28,31 @@ loop-holds : tie.Need-loop-holds Inv-loop μ-loop
 loop-holds c =
     let at-plant = c .before .before in
     let start = at-plant .before .before .before .before .before in
-    (omega (arith, start .pre .0 .seated .workable .someState), building-none (at-plant .plant .ensures))
+    (omega (arith, start .pre .0 .seated .bounded .fillable .problem .states .someState), building-none (at-plant .plant .ensures))
 
-mul-better : tie.Need-mul-better Inv-loop μ-loop
-mul-better c = search needs
+mul-better-of : tie.Need-mul-better-of Inv-loop μ-loop
+mul-better-of c = search needs
 
-mul-better-2 : tie.Need-mul-better-2 Inv-loop μ-loop
-mul-better-2 c = search needs
+mul-better-of-2 : tie.Need-mul-better-of-2 Inv-loop μ-loop
+mul-better-of-2 c = search needs
 
-slice-read-better : tie.Need-slice-read-better Inv-loop μ-loop
-slice-read-better c = omega (arith, c .before .before .loop .inv .1 .size, c .before .before .loop .inv .0)
+slice-read-better-of : tie.Need-slice-read-better-of Inv-loop μ-loop
+slice-read-better-of c = omega (arith, c .before .before .loop .inv .1 .size, c .before .before .loop .inv .0)
 
-mul-better-3 : tie.Need-mul-better-3 Inv-loop μ-loop
-mul-better-3 c = search needs
+mul-better-of-3 : tie.Need-mul-better-of-3 Inv-loop μ-loop
+mul-better-of-3 c = search needs
 
-add-better : tie.Need-add-better Inv-loop μ-loop
-add-better c = search needs
+add-better-of : tie.Need-add-better-of Inv-loop μ-loop
+add-better-of c = search needs
 
-mul-better-4 : tie.Need-mul-better-4 Inv-loop μ-loop
-mul-better-4 c = search needs
+mul-better-of-4 : tie.Need-mul-better-of-4 Inv-loop μ-loop
+mul-better-of-4 c = search needs
 
-slice-read-better-2 : tie.Need-slice-read-better-2 Inv-loop μ-loop
-slice-read-better-2 c = omega (arith, c .before .before .before .loop .inv .1 .size, c .before .before .before .loop .inv .0)
+slice-read-better-of-2 : tie.Need-slice-read-better-of-2 Inv-loop μ-loop
+slice-read-better-of-2 c = omega (arith, c .before .before .before .loop .inv .1 .size, c .before .before .before .loop .inv .0)
 
-better-requires : tie.Need-better-requires Inv-loop μ-loop
-better-requires c κs =
+better-of-requires : tie.Need-better-of-requires Inv-loop μ-loop
+better-of-requires c κs =
     let at-loop-test = c .before .before in
     let at-loop = at-loop-test .before in
     let at-slice-known = at-loop .before .before .before .before .before in
@@ -79,7 +79,7 @@ loop-again c =
     let at-loop-test = c .before .before .before in
     let at-loop = at-loop-test .before in
     let ready = building-next (at-loop .loop .inv .1) (at-loop-test .loop-test .taken) (at-loop .loop .inv .0) in
-    (omega (arith, at-loop .loop .inv .0), rw (c .better .ensures) (building-more (at-loop .loop .inv .1) ready))
+    (omega (arith, at-loop .loop .inv .0), rw (c .better-of .ensures) (building-more (at-loop .loop .inv .1) ready))
 
 same-length : tie.Need-same-length Inv-loop μ-loop
 same-length c =
@@ -99,14 +99,14 @@ build-spec =
     plant-requires
     sub-k
     loop-holds
-    mul-better
-    mul-better-2
-    slice-read-better
-    mul-better-3
-    add-better
-    mul-better-4
-    slice-read-better-2
-    better-requires
+    mul-better-of
+    mul-better-of-2
+    slice-read-better-of
+    mul-better-of-3
+    add-better-of
+    mul-better-of-4
+    slice-read-better-of-2
+    better-of-requires
     mul-tree
     slice-write-tree
     sub-k-2

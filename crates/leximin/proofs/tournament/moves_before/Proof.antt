@@ -12,13 +12,13 @@ returns : tie.Need-returns
 unfolding movesBefore
 returns c = c .wants-before .ensures ∙ simp (c .before .if1 .taken)
 
-gives-before-requires : tie.Need-gives-before-requires
-gives-before-requires c κs = (rw (c .if1 .left) at (c .before .before .before .pre .0), c .before .before .before .pre .1)
+gives-up-before-requires : tie.Need-gives-up-before-requires
+gives-up-before-requires c κs = (rw (c .if1 .left) at (c .before .before .before .pre .0), c .before .before .before .pre .1)
 
 returns-2 : tie.Need-returns-2
 unfolding movesBefore
-returns-2 c = c .gives-before .ensures ∙ simp (c .before .if1 .left)
+returns-2 c = c .gives-up-before .ensures ∙ simp (c .before .if1 .left)
 
 pub moves-before-spec : {M : Type 1} → statement M
 moves-before-spec =
-    tie.close (tie.spec wants-before-requires returns gives-before-requires returns-2)
+    tie.close (tie.spec wants-before-requires returns gives-up-before-requires returns-2)

@@ -1,10 +1,10 @@
--- `placing::Placing::open` meets its contract: the refusal picks the case of the definition; without one the populations are ready to be
+-- `placing::Placing::open` meets its contract: the refusal picks the case of the definition; without one there is a problem to be
 -- worked on.
 -- Assumes nothing.
 use mathlib.Core.Path.{sym, _∙_}
 use borrow.Author.Tests.{eq-eqb, ne-eqb}
 use Rattle.placing.specs.Placing.{openedOf, refusedWith}
-use Rattle.placing.specs.inner.Telling.{opened-parts}
+use Rattle.placing.specs.inner.Telling.{opened-problem}
 use borrow.Author.Needs.{needs}
 use Rattle.placing.proofs.Placing.open.Statement.{statement}
 use Rattle.placing.proofs.Placing.open.Tie as tie
@@ -33,7 +33,7 @@ total-of-requires c κs = search needs
 
 started-placing-requires : tie.Need-started-placing-requires
 started-placing-requires c κs =
-    opened-parts (sym (c .before .before .open-refusal .ensures) ∙ c .before .if1 .left) (c .total-of .ensures)
+    opened-problem (sym (c .before .before .open-refusal .ensures) ∙ c .before .if1 .left) (c .total-of .ensures)
 
 handed-back-requires-2 : tie.Need-handed-back-requires-2
 handed-back-requires-2 c κs = search needs

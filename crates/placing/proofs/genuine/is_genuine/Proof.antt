@@ -9,7 +9,7 @@ use lib.ListN.{length}
 use lib.Seq.{length-take-le}
 use Rattle.apportionment.specs.Limits.{stateLimit}
 use Rattle.placing.specs.Placing.{genuine, peopleOf}
-use Rattle.placing.specs.inner.Telling.{not-genuine, opened-parts}
+use Rattle.placing.specs.inner.Telling.{not-genuine, opened-problem}
 use borrow.Author.Needs.{needs}
 use Rattle.placing.proofs.genuine.is_genuine.Statement.{statement}
 use Rattle.placing.proofs.genuine.is_genuine.Tie as tie
@@ -68,7 +68,7 @@ slice-aggregate-steps-agree c =
 
 steps-agree-requires : tie.Need-steps-agree-requires
 steps-agree-requires c κs =
-    opened-parts
+    opened-problem
     (sym (c .before .before .before .before .open-refusal .ensures) ∙ c .before .before .before .if2 .left)
     (c .before .total-of .ensures)
 
@@ -106,10 +106,11 @@ seats-agree-requires c κs =
     let at-if2 = at-total-of .before .before in
     let at-open-refusal = at-if2 .before in
     let at-if1 = at-open-refusal .before .before in
-    let start = at-if1 .before .before .before in (
-      opened-parts (sym (at-open-refusal .open-refusal .ensures) ∙ at-if2 .if2 .left) (at-total-of .total-of .ensures),
-      same-first _ _ _ (full-seats start) (full-people start) (at-if1 .if1 .left),
-    )
+    let start = at-if1 .before .before .before in
+    record {
+      problem = opened-problem (sym (at-open-refusal .open-refusal .ensures) ∙ at-if2 .if2 .left) (at-total-of .total-of .ensures);
+      sameLength = same-first _ _ _ (full-seats start) (full-people start) (at-if1 .if1 .left);
+    }
 
 slice-aggregate-zeros-from : tie.Need-slice-aggregate-zeros-from
 slice-aggregate-zeros-from c = search needs
@@ -138,9 +139,9 @@ returns-3 c =
     let start = at-if1 .before .before .before in
     c .zeros-from2 .ensures ∙ last-test (start .args .placing) (full-people start) (full-seats start)
     (at-if1 .if1 .left) (sym (at-open-refusal .open-refusal .ensures) ∙ at-if2 .if2 .left)
-    (sym (at-steps-agree .steps-agree .ensures) ∙ at-if3 .if3 .taken)
-    (sym (at-seats-agree .seats-agree .ensures) ∙ at-if4 .if4 .taken)
-    (sym (at-zeros-from .zeros-from .ensures) ∙ at-if5 .if5 .taken)
+    (rw (← at-steps-agree .steps-agree .ensures) (at-if3 .if3 .taken))
+    (rw (← at-seats-agree .seats-agree .ensures) (at-if4 .if4 .taken))
+    (rw (← at-zeros-from .zeros-from .ensures) (at-if5 .if5 .taken))
 
 returns-4 : tie.Need-returns-4
 unfolding peopleOf

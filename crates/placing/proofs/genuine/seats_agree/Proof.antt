@@ -22,7 +22,7 @@ ends-apart-requires : tie.Need-ends-apart-requires
 ends-apart-requires c κs =
     let past = c .before .before .before .before .before in
     let start = past .before in
-    seats-seated (start .pre .0) (start .pre .1) (sym (c .before .each-within .ensures) ∙ c .if2 .taken)
+    seats-seated (start .pre) (sym (c .before .each-within .ensures) ∙ c .if2 .taken)
 
 returns-2 : tie.Need-returns-2
 unfolding seatsAgree

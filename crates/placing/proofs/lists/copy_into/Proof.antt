@@ -1,23 +1,22 @@
 -- `placing::lists::copy_into` meets its contract: every place passed holds what the other list has there.
 -- Assumes nothing.
 use borrow.Author.Needs.{needs}
-use Prim.Native.Nat.{ℕ, _<_, _≤_, _-_}
-use mathlib.Core.Path.{_≡_, refl}
-use lib.ListN.{length, getD, length-set}
-use lib.Seq.{ext-getD}
-use native.Mathlib.Omega.{arith}
-use Rattle.sizes.specs.inner.Sizes.{filled-next}
+use Prim.Native.Nat.{ℕ, _-_}
+use mathlib.Core.Path.{refl, _∙_}
+use lib.ListN.{length, getD}
+use Rattle.apportionment.specs.inner.Lists.{listOf-places}
+use Rattle.apportionment.specs.inner.Filling.{FilledTo, fill-starts, fill-goes-on, fill-ends}
 use Rattle.placing.proofs.lists.copy_into.Statement.{statement}
 use Rattle.placing.proofs.lists.copy_into.Tie as tie
 
 abbrev Inv-loop : tie.InvT-loop
-Inv-loop from to₀ i₀ to i = (i ≤ length from) × (length to ≡ length from) × ((k : ℕ) → k < i → getD to k 0 ≡ getD from k 0)
+Inv-loop from to₀ i₀ to i = FilledTo (λ (k : ℕ). getD from k 0) (length from) i to
 
 abbrev μ-loop : tie.MeasureT-loop
 μ-loop from to₀ i₀ to i = length from - i
 
 loop-holds : tie.Need-loop-holds Inv-loop μ-loop
-loop-holds c = search needs
+loop-holds c = fill-starts _ _ _ (c .pre)
 
 mul-to : tie.Need-mul-to Inv-loop μ-loop
 mul-to c = search needs
@@ -38,23 +37,13 @@ loop-less : tie.Need-loop-less Inv-loop μ-loop
 loop-less c = search needs
 
 loop-again : tie.Need-loop-again Inv-loop μ-loop
-loop-again c = (
-  omega (arith, c .before .loop-test .taken),
-  simp length-set (c .before .before .loop .inv .1),
-  filled-next
-      (λ (k : ℕ). getD (c .before .before .before .args .from .now) k 0) (c .before .before .loop .to)
-      (c .before .before .loop .i)
-      (getD (c .before .before .before .args .from .now) (c .before .before .loop .i) 0)
-      (omega (arith, c .before .loop-test .taken, c .before .before .loop .inv .1)) refl (c .before .before .loop .inv .2),
-)
+loop-again c = fill-goes-on _ _ _ _ _ (c .before .loop-test .taken) refl (c .before .before .loop .inv)
 
 same-length : tie.Need-same-length Inv-loop μ-loop
 same-length c = search needs
 
 returns : tie.Need-returns Inv-loop μ-loop
-returns c =
-    ext-getD 0 _ _ (c .before .loop .inv .1)
-    (λ k h. c .before .loop .inv .2 k (omega (arith, h, c .loop-test .left, c .before .loop .inv .1)))
+returns c = fill-ends _ _ _ _ (c .loop-test .left) (c .before .loop .inv) ∙ listOf-places _
 
 pub copy-into-spec : {M : Type 1} → statement M
 copy-into-spec =

@@ -26,8 +26,10 @@ returns c =
     let start = at-rises .before in
     simp (
       climbs-compared (start .pre .0) (start .pre .1),
-      sym (at-rises2 .rises2 .ensures) ∙ at-if1 .if1 .taken,
-      sym (at-rises .rises .ensures) ∙ c .before .if2 .taken,
+      ← at-rises2 .rises2 .ensures,
+      at-if1 .if1 .taken,
+      ← at-rises .rises .ensures,
+      c .before .if2 .taken,
       c .rises-before .ensures,
     )
 
@@ -39,8 +41,10 @@ returns-2 c =
     let start = at-rises .before in
     simp (
       climbs-compared (start .pre .0) (start .pre .1),
-      sym (at-rises2 .rises2 .ensures) ∙ c .before .if1 .taken,
-      sym (at-rises .rises .ensures) ∙ c .if2 .left,
+      ← at-rises2 .rises2 .ensures,
+      c .before .if1 .taken,
+      ← at-rises .rises .ensures,
+      c .if2 .left,
     )
 
 returns-3 : tie.Need-returns-3
@@ -48,7 +52,8 @@ unfolding climbsBefore
 returns-3 c =
     simp (
       climbs-compared (c .before .before .before .pre .0) (c .before .before .before .pre .1),
-      sym (c .before .rises2 .ensures) ∙ c .if1 .left,
+      ← c .before .rises2 .ensures,
+      c .if1 .left,
       c .before .before .rises .ensures,
     )
 

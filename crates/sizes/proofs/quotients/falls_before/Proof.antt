@@ -52,11 +52,12 @@ returns-3 c =
     let at-if2 = at-size-of .before in
     let at-if1 = at-if2 .before in
     let start = at-if1 .before in
+    let people = start .pre .0 .0 .state .peopled in
     simp (
       falls-compared (start .pre .0) (start .pre .1),
       le-ltb _ _ (at-if1 .if1 .left),
       le-ltb _ _ (at-if2 .if2 .left),
-      c .size-less .ensures ∙ sizes-compared (start .pre .0 .0 .peopled) (at-size-of .size-of .ensures) (c .before .size-of2 .ensures),
+      c .size-less .ensures ∙ sizes-compared people (at-size-of .size-of .ensures) (c .before .size-of2 .ensures),
     )
 
 pub falls-before-spec : {M : Type 1} → statement M

@@ -21,7 +21,7 @@ size-less-requires c κs = search needs
 returns : tie.Need-returns
 returns c =
     c .size-less .ensures
-    ∙ sizes-compared (c .before .before .before .pre .peopled) (c .before .before .size-of .ensures) (c .before .size-of2 .ensures)
+    ∙ sizes-compared (c .before .before .before .pre .state .peopled) (c .before .before .size-of .ensures) (c .before .size-of2 .ensures)
 
 pub rises-spec : {M : Type 1} → statement M
 rises-spec =

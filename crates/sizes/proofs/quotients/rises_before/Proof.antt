@@ -49,7 +49,7 @@ returns-3 c =
     simp (
       le-ltb _ _ (at-if1 .if1 .left),
       le-ltb _ _ (at-if2 .if2 .left),
-      c .size-less .ensures ∙ sizes-compared (start .pre .0 .peopled) (c .before .size-of2 .ensures) (at-size-of .size-of .ensures),
+      c .size-less .ensures ∙ sizes-compared (start .pre .0 .state .peopled) (c .before .size-of2 .ensures) (at-size-of .size-of .ensures),
     )
 
 pub rises-before-spec : {M : Type 1} → statement M

@@ -1,13 +1,13 @@
--- `leximin::tournament::gives_before` meets its contract: the tests that were made pick the case of the definition; two states with a
+-- `leximin::tournament::gives_up_before` meets its contract: the tests that were made pick the case of the definition; two states with a
 -- seat to spare are at or below their starts, so their last claims can be compared by quotients.
 -- Assumes nothing.
 use borrow.Author.Tests.{lt-ltb, le-ltb}
 use Rattle.claims.specs.inner.Order.{givesUpBefore}
 use Rattle.claims.specs.inner.SizeClaims.{sizeTest}
-use Rattle.leximin.specs.inner.Sided.{falling}
+use Rattle.leximin.specs.inner.Sided.{sided-problem, falling-claim}
 use borrow.Author.Needs.{needs}
-use Rattle.leximin.proofs.tournament.gives_before.Statement.{statement}
-use Rattle.leximin.proofs.tournament.gives_before.Tie as tie
+use Rattle.leximin.proofs.tournament.gives_up_before.Statement.{statement}
+use Rattle.leximin.proofs.tournament.gives_up_before.Tie as tie
 
 mul-a : tie.Need-mul-a
 mul-a c = search needs
@@ -52,8 +52,8 @@ falls-before-requires c κs =
     let at-if2 = c .before .before in
     let at-if1 = at-if2 .before in
     let start = at-if1 .before .before .before .before .before in (
-      falling (start .args .i) (start .pre .1 .0) (start .pre .0) (at-if1 .if1 .left),
-      falling (start .args .j) (start .pre .1 .1) (start .pre .0) (at-if2 .if2 .left),
+      falling-claim (start .args .i) (start .pre .1 .0) (start .pre .0) (at-if1 .if1 .left),
+      falling-claim (start .args .j) (start .pre .1 .1) (start .pre .0) (at-if2 .if2 .left),
     )
 
 returns-3 : tie.Need-returns-3
@@ -62,11 +62,11 @@ returns-3 c =
     let at-if2 = c .before .before .before in
     let at-if1 = at-if2 .before in
     let start = at-if1 .before .before .before .before .before in
-    rw (← start .pre .0 .seated .workable .counts .sums)
+    rw (← sided-problem (start .pre .0) .states .sums)
     (simp (lt-ltb _ _ (at-if1 .if1 .left), lt-ltb _ _ (at-if2 .if2 .left), c .falls-before .ensures))
 
-pub gives-before-spec : {M : Type 1} → statement M
-gives-before-spec =
+pub gives-up-before-spec : {M : Type 1} → statement M
+gives-up-before-spec =
     tie.close
     (tie.spec
     mul-a

@@ -1,11 +1,11 @@
--- `leximin::tournament::better` meets its contract: the tests that were made pick the case of the definition.
+-- `leximin::tournament::better_of` meets its contract: the tests that were made pick the case of the definition.
 -- Assumes nothing.
 use mathlib.Core.Path.{sym, _∙_}
 use borrow.Author.Tests.{lt-ltb, le-ltb}
 use Rattle.claims.specs.inner.Tournament.{better}
 use borrow.Author.Needs.{needs}
-use Rattle.leximin.proofs.tournament.better.Statement.{statement}
-use Rattle.leximin.proofs.tournament.better.Tie as tie
+use Rattle.leximin.proofs.tournament.better_of.Statement.{statement}
+use Rattle.leximin.proofs.tournament.better_of.Tie as tie
 
 wide-requires : tie.Need-wide-requires
 wide-requires c κs = search needs
@@ -23,7 +23,7 @@ returns c =
     let at-wide2 = at-if1 .before in
     let at-wide = at-wide2 .before in
     let tested = rw (at-wide2 .wide2 .ensures, at-wide .wide .ensures) at (c .before .moves-before .ensures) in
-    simp (lt-ltb _ _ (at-if1 .if1 .taken), sym tested ∙ c .if2 .taken)
+    simp (lt-ltb _ _ (at-if1 .if1 .taken), ← tested, c .if2 .taken)
 
 returns-2 : tie.Need-returns-2
 unfolding better
@@ -32,7 +32,7 @@ returns-2 c =
     let at-wide2 = at-if1 .before in
     let at-wide = at-wide2 .before in
     let tested = rw (at-wide2 .wide2 .ensures, at-wide .wide .ensures) at (c .before .moves-before .ensures) in
-    simp (lt-ltb _ _ (at-if1 .if1 .taken), sym tested ∙ c .if2 .left)
+    simp (lt-ltb _ _ (at-if1 .if1 .taken), ← tested, c .if2 .left)
 
 moves-before-requires-2 : tie.Need-moves-before-requires-2
 moves-before-requires-2 c κs = search needs
@@ -44,7 +44,7 @@ returns-3 c =
     let at-wide2 = at-if1 .before in
     let at-wide = at-wide2 .before in
     let tested = rw (at-wide .wide .ensures, at-wide2 .wide2 .ensures) at (c .before .moves-before2 .ensures) in
-    simp (le-ltb _ _ (at-if1 .if1 .left), sym tested ∙ c .if3 .taken)
+    simp (le-ltb _ _ (at-if1 .if1 .left), ← tested, c .if3 .taken)
 
 returns-4 : tie.Need-returns-4
 unfolding better
@@ -53,10 +53,10 @@ returns-4 c =
     let at-wide2 = at-if1 .before in
     let at-wide = at-wide2 .before in
     let tested = rw (at-wide .wide .ensures, at-wide2 .wide2 .ensures) at (c .before .moves-before2 .ensures) in
-    simp (le-ltb _ _ (at-if1 .if1 .left), sym tested ∙ c .if3 .left)
+    simp (le-ltb _ _ (at-if1 .if1 .left), ← tested, c .if3 .left)
 
-pub better-spec : {M : Type 1} → statement M
-better-spec =
+pub better-of-spec : {M : Type 1} → statement M
+better-of-spec =
     tie.close
     (tie.spec
     wide-requires

@@ -1,10 +1,10 @@
--- `sizes::move_less` meets its contract: the tests that were made pick the case of the order of claims.
+-- `sizes::claim_less` meets its contract: the tests that were made pick the case of the order of claims.
 -- Assumes nothing.
 use mathlib.Core.Path.{sym, _∙_}
-use Rattle.sizes.specs.inner.Sizes.{lessMove}
+use Rattle.sizes.specs.inner.Sizes.{lessClaim}
 use borrow.Author.Needs.{needs}
-use Rattle.sizes.proofs.move_less.Statement.{statement}
-use Rattle.sizes.proofs.move_less.Tie as tie
+use Rattle.sizes.proofs.claim_less.Statement.{statement}
+use Rattle.sizes.proofs.claim_less.Tie as tie
 
 size-less-requires : tie.Need-size-less-requires
 size-less-requires c κs = search needs
@@ -16,7 +16,7 @@ first-then-requires : tie.Need-first-then-requires
 first-then-requires c κs = search needs
 
 returns : tie.Need-returns
-unfolding lessMove
+unfolding lessClaim
 returns c =
     simp (
       sym (c .before .before .before .before .size-less .ensures) ∙ c .before .before .before .if1 .taken,
@@ -25,7 +25,7 @@ returns c =
     )
 
 returns-2 : tie.Need-returns-2
-unfolding lessMove
+unfolding lessClaim
 returns-2 c =
     simp (
       sym (c .before .before .before .size-less .ensures) ∙ c .before .before .if1 .taken,
@@ -36,7 +36,7 @@ size-less-requires-3 : tie.Need-size-less-requires-3
 size-less-requires-3 c κs = search needs
 
 returns-3 : tie.Need-returns-3
-unfolding lessMove
+unfolding lessClaim
 returns-3 c =
     simp (
       sym (c .before .before .before .size-less .ensures) ∙ c .before .before .if1 .left,
@@ -53,7 +53,7 @@ first-then-requires-2 : tie.Need-first-then-requires-2
 first-then-requires-2 c κs = search needs
 
 returns-4 : tie.Need-returns-4
-unfolding lessMove
+unfolding lessClaim
 returns-4 c =
     let at-size-less5 = c .before .before in
     let at-if4 = at-size-less5 .before in
@@ -71,7 +71,7 @@ returns-4 c =
     )
 
 returns-5 : tie.Need-returns-5
-unfolding lessMove
+unfolding lessClaim
 returns-5 c =
     let at-if4 = c .before .before in
     let at-size-less4 = at-if4 .before in
@@ -90,7 +90,7 @@ size-less-requires-6 : tie.Need-size-less-requires-6
 size-less-requires-6 c κs = search needs
 
 returns-6 : tie.Need-returns-6
-unfolding lessMove
+unfolding lessClaim
 returns-6 c =
     let at-size-less4 = c .before .before in
     let at-if3 = at-size-less4 .before in
@@ -104,8 +104,8 @@ returns-6 c =
       c .size-less6 .ensures,
     )
 
-pub move-less-spec : {M : Type 1} → statement M
-move-less-spec =
+pub claim-less-spec : {M : Type 1} → statement M
+claim-less-spec =
     tie.close
     (tie.spec
     size-less-requires
