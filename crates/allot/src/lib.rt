@@ -8,9 +8,11 @@ use problem::allot_refusal;
 use problem::total_of;
 use remainders::fill_remainders;
 ghost use mathlib.Core.Path.{_≡_};
+ghost use mathlib.Core.Bool.{true};
+ghost use Prim.Native.Nat.{_≤_};
 ghost use lib.ListN.{length};
-ghost use Rattle.apportionment.specs.Lists.{sum};
-ghost use Rattle.problem.specs.inner.Passed.{AllotPassed};
+ghost use Rattle.apportionment.specs.Allotment.{seatsEveryState};
+ghost use Rattle.apportionment.specs.inner.Problem.{Fillable};
 ghost use Rattle.allot.specs.inner.Allot.{Filled};
 ghost use Rattle.allot.specs.Allot.{AllotmentIs};
 
@@ -22,7 +24,7 @@ pub struct Allotted {
 
 // Fills in the method's seats, once the checks have passed; the answer is the steps.
 fn fill_seats(method: Method, populations: &[u64], total: u64, house: u64, seats: &mut [u64]) -> u64
-    requires { ⌜ AllotPassed method house (now populations) (length (now seats)) × (total ≡ sum (now populations)) ⌝ }
+    requires { ⌜ Fillable (now populations) total house (now seats) × (seatsEveryState method ≡ true → length (now populations) ≤ house) ⌝ }
     ensures { λ r. ⌜ Filled method (now (populations .entry)) house (now (seats .exit)) r ⌝ }
 {
     if let Method::Leximin = method {

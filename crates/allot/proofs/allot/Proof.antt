@@ -2,7 +2,7 @@
 -- sum.
 -- Assumes nothing.
 use mathlib.Core.Path.{sym, _∙_}
-use Rattle.problem.specs.inner.Passed.{allot-passed}
+use Rattle.problem.specs.inner.Passed.{allot-passed, allottable-fillable}
 use Rattle.problem.specs.inner.Total.{total-is-sum}
 use Rattle.allot.specs.inner.Allot.{refused-untouched, accepted-filled}
 use borrow.Author.Needs.{needs}
@@ -19,12 +19,11 @@ total-of-requires : tie.Need-total-of-requires
 total-of-requires c κs = search needs
 
 fill-seats-requires : tie.Need-fill-seats-requires
-fill-seats-requires c κs = (
-  allot-passed _ _ _ _ (sym (c .before .before .before .allot-refusal .ensures) ∙ c .before .before .if1 .left),
-  c .before .total-of .ensures ∙ total-is-sum _
-      (allot-passed _ _ _ _
-      (sym (c .before .before .before .allot-refusal .ensures) ∙ c .before .before .if1 .left) .problem .sumWithin),
-)
+fill-seats-requires c κs =
+    let at-if1 = c .before .before in
+    let passed = allot-passed _ _ _ _ (sym (at-if1 .before .allot-refusal .ensures) ∙ at-if1 .if1 .left) in
+    let added = c .before .total-of .ensures ∙ total-is-sum _ (passed .problem .states .sumWithin) in
+    (allottable-fillable passed added, passed .seatForEach)
 
 same-length : tie.Need-same-length
 same-length c = search needs

@@ -10,11 +10,8 @@ enum-told c = search needs
 
 fill-leximin-requires : tie.Need-fill-leximin-requires
 fill-leximin-requires c κs =
-    let start = c .before .before .before .before .before in (
-      record { problem = start .pre .0 .problem; sums = start .pre .1 },
-      start .pre .0 .seatForEach (every (start .args .method) (c .before .enum-told .given .1)),
-      start .pre .0 .roomFits,
-    )
+    let start = c .before .before .before .before .before in
+    (start .pre .0, start .pre .1 (every (start .args .method) (c .before .enum-told .given .1)))
 
 same-length : tie.Need-same-length
 same-length c = search needs

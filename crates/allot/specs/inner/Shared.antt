@@ -16,9 +16,10 @@ use Rattle.apportionment.specs.declared.Method.{Method}
 use Rattle.apportionment.specs.declared.Method.the-variants.{Leximin, Adams, Dean, Hill, Webster, Jefferson, Remainders}
 use Rattle.claims.specs.inner.DivisorRounding.{signposts-increase, weight-positive}
 use Rattle.claims.specs.inner.DivisorSeats.{claims-met-standing, claims-met-sum}
-use Rattle.claims.specs.inner.SizeClaims.{Sound}
+use Rattle.apportionment.specs.inner.Problem.{Problem}
+use Rattle.claims.specs.inner.SizeClaims.{problem-positive}
 use Rattle.claims.specs.inner.LeximinSteps.{moved-standing, moved-total, last-step-leximin, total-at-gap}
-use Rattle.problem.specs.inner.Passed.{Passed, AllotPassed}
+use Rattle.problem.specs.inner.Passed.{Allottable}
 use Rattle.remainders.specs.inner.House.{seats-sum-to-house}
 
 -- So many seats for so many states.
@@ -26,32 +27,32 @@ pub record Shared (n H : ℕ) (seats : List ℕ) : Type 0 where
   pub states : length seats ≡ n
   pub whole : sum seats ≡ H
 
-leximin-shared : (ps : List ℕ) (H : ℕ) → Passed ps H → length ps ≤ H → Shared (length ps) H (leximinFor ps H H)
+leximin-shared : (ps : List ℕ) (H : ℕ) → Problem ps (sum ps) H → length ps ≤ H → Shared (length ps) H (leximinFor ps H H)
 leximin-shared ps H ok fits =
-    let sound : Sound ps H = record { someState = ok .someState; someSeat = ok .someSeat; peopled = ok .peopled } in
+    let positive = problem-positive ok in
     let all : gap ps H ≤ gap ps H = le-refl (gap ps H) in
-    rw (← last-step-leximin sound fits)
+    rw (← last-step-leximin positive fits)
     (record {
-      states = moved-standing sound fits (gap ps H) all .states;
-      whole = moved-total sound fits (gap ps H) all ∙ total-at-gap ps H;
+      states = moved-standing positive fits (gap ps H) all .states;
+      whole = moved-total positive fits (gap ps H) all ∙ total-at-gap ps H;
     })
 
-divisor-shared : (m : Method) (ps : List ℕ) (H : ℕ) → Passed ps H → Shared (length ps) H (divisorSeats m ps H)
+divisor-shared : (m : Method) (ps : List ℕ) (H : ℕ) → Problem ps (sum ps) H → Shared (length ps) H (divisorSeats m ps H)
 unfolding divisorSeats
 divisor-shared m ps H ok =
     let weighs : (i : ℕ) → i < length ps → 0 < weightOf m (getD ps i 0) =
-    λ i below. weight-positive m (getD ps i 0) (ok .peopled i below) in
+    λ i below. weight-positive m (getD ps i 0) (ok .states .peopled i below) in
     record {
-      states = claims-met-standing (signposts-increase m) weighs (ok .someState) H .states;
-      whole = claims-met-sum (signposts-increase m) weighs (ok .someState) H;
+      states = claims-met-standing (signposts-increase m) weighs (ok .states .someState) H .states;
+      whole = claims-met-sum (signposts-increase m) weighs (ok .states .someState) H;
     }
 
-remainders-shared : (ps : List ℕ) (H : ℕ) → Passed ps H → Shared (length ps) H (remainderSeats ps H)
+remainders-shared : (ps : List ℕ) (H : ℕ) → Problem ps (sum ps) H → Shared (length ps) H (remainderSeats ps H)
 unfolding remainderSeats
 remainders-shared ps H ok =
-    record { states = length-listOf (remainderSeatsAt ps H) (length ps); whole = seats-sum-to-house ps H ok }
+    record { states = length-listOf (remainderSeatsAt ps H) (length ps); whole = seats-sum-to-house ok }
 
-pub allotment-shared : (m : Method) (H : ℕ) (ps : List ℕ) (room : ℕ) → AllotPassed m H ps room → Shared (length ps) H (seatsOf m ps H)
+pub allotment-shared : (m : Method) (H : ℕ) (ps : List ℕ) (room : ℕ) → Allottable m H ps room → Shared (length ps) H (seatsOf m ps H)
 unfolding seatsOf seatsEveryState
 allotment-shared Leximin H ps room ok = leximin-shared ps H (ok .problem) (ok .seatForEach refl)
 allotment-shared Adams H ps room ok = divisor-shared Adams ps H (ok .problem)

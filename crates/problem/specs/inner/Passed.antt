@@ -13,7 +13,7 @@ use Rattle.apportionment.specs.Limits.{stateLimit, houseLimit, sumLimit}
 use Rattle.apportionment.specs.Refusals.{accepted, statesOutOfLimits, houseOutOfLimits, populationZero, sumTooLarge}
 use Rattle.apportionment.specs.Checks.{firstRefusal}
 use Rattle.apportionment.specs.inner.Checks.{inside-limits, check-passed}
-use Rattle.apportionment.specs.inner.Problem.{Problem}
+use Rattle.apportionment.specs.inner.Problem.{Problem, Fillable}
 use Rattle.apportionment.specs.inner.Tests.{either-way}
 use Rattle.apportionment.specs.Lists.{sum}
 use Rattle.apportionment.specs.Allotment.{statesOutside, houseOutside, hasZero, sumOutside, listMisfits, seatsEveryState, seatsTooFew}
@@ -27,6 +27,10 @@ pub record Allottable (m : Method) (H : ℕ) (ps : List ℕ) (room : ℕ) : Type
   pub problem : Problem ps (sum ps) H
   pub roomFits : room ≡ length ps
   pub seatForEach : seatsEveryState m ≡ true → length ps ≤ H
+
+-- So the list can be filled, by whoever has added up the populations.
+pub allottable-fillable : {m : Method} {H P : ℕ} {ps seats : List ℕ} → Allottable m H ps (length seats) → P ≡ sum ps → Fillable ps P H seats
+allottable-fillable ok e = record { problem = rw e (ok .problem); sameLength = ok .roomFits }
 
 -- What opening adds: a seat for each state.
 pub record Openable (ps : List ℕ) (H : ℕ) : Type 0 where
