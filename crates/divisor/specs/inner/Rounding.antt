@@ -1,6 +1,7 @@
 -- Rounded seats in machine words: those of one state, and the list of all as a loop fills it in from the front.
 -- Assumes nothing.
 use mathlib.Core.Path.{_≡_, sym, ap, _∙_}
+use mathlib.Core.Bool.{Bool, cond}
 use mathlib.Core.List.{List}
 use Prim.Native.Nat.{ℕ, _+_, _*_, _/_, _≤_, _<_}
 use native.Mathlib.Omega.{arith}
@@ -9,7 +10,7 @@ use lib.ListN.{length, getD, set}
 use Rattle.apportionment.specs.Limits.{sumLimit}
 use Rattle.apportionment.specs.Lists.{sum, listOf}
 use Rattle.apportionment.specs.Quantities.{less}
-use Rattle.apportionment.specs.Divisor.{signpost, weightOf, claimOf}
+use Rattle.apportionment.specs.Divisor.{weightOf}
 use Rattle.apportionment.specs.declared.Method.{Method}
 use Rattle.apportionment.specs.inner.Lists.{map-is-listOf, sum-listOf-none, sum-listOf-more}
 use Rattle.apportionment.specs.inner.Filling.{FilledTo, fill-starts, fill-goes-on, fill-ends}
@@ -39,12 +40,13 @@ whole-at-most {p} {P} {A} k = div-le-of-le-mul P (mul-le-mul-right A (k .oneOfAl
 pub whole-claim-fits : {p P A : ℕ} → ShareFits p P A → ClaimFits p (p * A / P)
 whole-claim-fits k = record { peopleWithin = omega arith; seatsWithin = omega (arith, whole-at-most k, k .aimWithin) }
 
--- The test against the average, in machine words.
-pub average-test : (m : Method) (P A p a : ℕ) {over under : ℕ} {claim : Claim}
-    → over ≡ weightOf m A → under ≡ weightOf m P → claim ≡ claimFor m p a
-    → lessClaim (record { over = over; under = under }) claim ≡ less (averageClaim m P A) (claimOf (signpost m) (weightOf m p) a)
-unfolding claimFor held less averageClaim
-average-test m P A p a e f g = rw (e, f, g)
+-- The test against the average, in machine words, says which seats are the rounded ones.
+pub rounded-by-test : (m : Method) (P A p : ℕ) {over under : ℕ} {claim : Claim} {found t : Bool}
+    → over ≡ weightOf m A → under ≡ weightOf m P → claim ≡ claimFor m p (p * A / P)
+    → found ≡ lessClaim (record { over = over; under = under }) claim → found ≡ t
+    → cond t (p * A / P) (p * A / P + 1) ≡ rounded m P A p
+unfolding rounded claimFor held less averageClaim
+rounded-by-test m P A p e f g test answer = rw (← answer, test, e, f, g)
 
 -- ---- all states
 
