@@ -64,14 +64,14 @@ filled-length {m} {ps} {A} f = ap length (f .seats) ∙ length-rounded m ps A
 
 -- The first i states have their rounded seats, which are `given` in all.
 pub record Filling (m : Method) (P A : ℕ) (ps : List ℕ) (i : ℕ) (ss : List ℕ) (given : ℕ) : Type 0 where
-  pub so-far : FilledTo (roundedAt m P A ps) (length ps) i ss
+  pub done : FilledTo (roundedAt m P A ps) (length ps) i ss
   pub total : given ≡ sum (listOf (roundedAt m P A ps) i)
   pub small : given ≤ i * seatLimit
 
 module _ (m : Method) {P A : ℕ} {ps : List ℕ} (k : States ps P) (aim : A ≤ aimLimit) where
   pub filling-none : (ss : List ℕ) → length ss ≡ length ps → Filling m P A ps 0 ss 0
   filling-none ss long =
-      record { so-far = fill-starts _ _ ss long; total = sym (sum-listOf-none (roundedAt m P A ps)); small = omega arith }
+      record { done = fill-starts _ _ ss long; total = sym (sum-listOf-none (roundedAt m P A ps)); small = omega arith }
 
   pub own-at-most : (i own : ℕ) → own ≡ roundedAt m P A ps i → own ≤ seatLimit
   own-at-most i own e = omega (arith, e, rounded-at-most m P A (getD ps i 0) (entry-at-most-total k i))
@@ -80,7 +80,7 @@ module _ (m : Method) {P A : ℕ} {ps : List ℕ} (k : States ps P) (aim : A ≤
       → own ≡ roundedAt m P A ps i → Filling m P A ps (i + 1) (set ss i own) (given + own)
   filling-more {i} {given} {own} {ss} f h e =
       record {
-        so-far = fill-goes-on _ _ i own ss h e (f .so-far);
+        done = fill-goes-on _ _ i own ss h e (f .done);
         total = omega (arith, f .total, e, sum-listOf-more (roundedAt m P A ps) i);
         small = omega (arith, f .small, own-at-most i own e);
       }
@@ -91,5 +91,5 @@ module _ (m : Method) {P A : ℕ} {ps : List ℕ} (k : States ps P) (aim : A ≤
 
   pub filling-done : {i given : ℕ} {ss : List ℕ} → Filling m P A ps i ss given → length ps ≤ i → Filled m ps A ss given
   filling-done {i} f past =
-      let all : i ≡ length ps = omega (arith, f .so-far .reached) in
-      record { seats = fill-ends _ _ _ _ past (f .so-far) ∙ sym rounded-by-place; total = f .total ∙ rw (all, rounded-by-place) }
+      let all : i ≡ length ps = omega (arith, f .done .reached) in
+      record { seats = fill-ends _ _ _ _ past (f .done) ∙ sym rounded-by-place; total = f .total ∙ rw (all, rounded-by-place) }
