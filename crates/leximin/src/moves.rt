@@ -55,7 +55,7 @@ fn move_by_scans(
     house: u64,
     times: u64,
 )
-    requires { ⌜ Movable up (now populations) (now seats) total house times ⌝ }
+    requires { ⌜ Movable up (now populations) total house (now seats) times ⌝ }
     ensures { λ _. ⌜ now (seats .exit) ≡ movedTimes up (now (populations .entry)) house (now (seats .entry)) times ⌝ }
 {
     let mut done = 0;
@@ -86,7 +86,7 @@ fn move_by_tournament(
     times: u64,
     tree: &mut [u16],
 )
-    requires { ⌜ Movable up (now populations) (now seats) total house times × (length (now tree) ≡ 2 * length (now populations)) ⌝ }
+    requires { ⌜ Movable up (now populations) total house (now seats) times × (length (now tree) ≡ 2 * length (now populations)) ⌝ }
     ensures { λ _. ⌜ now (seats .exit) ≡ movedTimes up (now (populations .entry)) house (now (seats .entry)) times ⌝ }
 {
     build(up, populations, &seats[..], total, house, &mut tree[..]);
@@ -129,7 +129,7 @@ pub fn move_times(
     house: u64,
     times: u64,
 )
-    requires { ⌜ Movable up (now populations) (now seats) total house times ⌝ }
+    requires { ⌜ Movable up (now populations) total house (now seats) times ⌝ }
     ensures { λ _. ⌜ now (seats .exit) ≡ movedTimes up (now (populations .entry)) house (now (seats .entry)) times ⌝ }
 {
     if scans_pay(populations.len(), times) {

@@ -7,7 +7,7 @@ ghost use Prim.Native.Nat.{_<_};
 ghost use Rattle.claims.specs.inner.Order.{wantsBefore, givesUpBefore};
 ghost use Rattle.claims.specs.inner.DivisorClaims.{methodTest};
 ghost use Rattle.claims.specs.inner.Tournament.{better};
-ghost use Rattle.signposts.specs.inner.Order.{ClaimsFit, BothClaimsFit, firstToMove, movesBefore, noFewest};
+ghost use Rattle.signposts.specs.inner.Order.{ClaimsFit, BothClaimsFit, MovesFirst, movesBefore, noFewest};
 
 // State i's next claim comes before state j's.
 fn wants_before(method: Method, populations: &[u64], seats: &[u64], i: usize, j: usize) -> bool
@@ -82,7 +82,7 @@ pub fn better_of(
 // The state that moves first, by going through all.
 pub fn first_to_move(method: Method, up: bool, populations: &[u64], seats: &[u64]) -> usize
     requires { ⌜ ClaimsFit (now populations) (now seats) ⌝ }
-    ensures { λ r. ⌜ r ≡ firstToMove method up (now (populations .entry)) (now (seats .entry)) ⌝ }
+    ensures { λ r. ⌜ MovesFirst method up (now (populations .entry)) (now (seats .entry)) r ⌝ }
 {
     let mut best = 0;
     let mut i = 1;

@@ -1,6 +1,7 @@
 -- Rounded seats in machine words: those of one state, and the list of all as a loop fills it in from the front.
 -- Assumes nothing.
 use mathlib.Core.Path.{_≡_, sym, ap, _∙_}
+use mathlib.Core.Bool.{Bool, cond}
 use mathlib.Core.List.{List}
 use Prim.Native.Nat.{ℕ, _+_, _*_, _/_, _≤_, _<_}
 use native.Mathlib.Omega.{arith}
@@ -9,7 +10,7 @@ use lib.ListN.{length, getD, set}
 use Rattle.apportionment.specs.Limits.{sumLimit}
 use Rattle.apportionment.specs.Lists.{sum, listOf}
 use Rattle.apportionment.specs.Quantities.{less}
-use Rattle.apportionment.specs.Divisor.{signpost, weightOf, claimOf}
+use Rattle.apportionment.specs.Divisor.{weightOf}
 use Rattle.apportionment.specs.declared.Method.{Method}
 use Rattle.apportionment.specs.inner.Lists.{map-is-listOf, sum-listOf-none, sum-listOf-more}
 use Rattle.apportionment.specs.inner.Filling.{FilledTo, fill-starts, fill-goes-on, fill-ends}
@@ -39,12 +40,13 @@ whole-at-most {p} {P} {A} k = div-le-of-le-mul P (mul-le-mul-right A (k .oneOfAl
 pub whole-claim-fits : {p P A : ℕ} → ShareFits p P A → ClaimFits p (p * A / P)
 whole-claim-fits k = record { peopleWithin = omega arith; seatsWithin = omega (arith, whole-at-most k, k .aimWithin) }
 
--- The test against the average, in machine words.
-pub average-test : (m : Method) (P A p a : ℕ) {over under : ℕ} {claim : Claim}
-    → over ≡ weightOf m A → under ≡ weightOf m P → claim ≡ claimFor m p a
-    → lessClaim (record { over = over; under = under }) claim ≡ less (averageClaim m P A) (claimOf (signpost m) (weightOf m p) a)
-unfolding claimFor held less averageClaim
-average-test m P A p a e f g = rw (e, f, g)
+-- The test against the average, in machine words, says which seats are the rounded ones.
+pub rounded-by-test : (m : Method) (P A p : ℕ) {over under : ℕ} {claim : Claim} {found t : Bool}
+    → over ≡ weightOf m A → under ≡ weightOf m P → claim ≡ claimFor m p (p * A / P)
+    → found ≡ lessClaim (record { over = over; under = under }) claim → found ≡ t
+    → cond t (p * A / P) (p * A / P + 1) ≡ rounded m P A p
+unfolding rounded claimFor held less averageClaim
+rounded-by-test m P A p e f g test answer = rw (← answer, test, e, f, g)
 
 -- ---- all states
 
@@ -62,14 +64,14 @@ filled-length {m} {ps} {A} f = ap length (f .seats) ∙ length-rounded m ps A
 
 -- The first i states have their rounded seats, which are `given` in all.
 pub record Filling (m : Method) (P A : ℕ) (ps : List ℕ) (i : ℕ) (ss : List ℕ) (given : ℕ) : Type 0 where
-  pub so-far : FilledTo (roundedAt m P A ps) (length ps) i ss
+  pub done : FilledTo (roundedAt m P A ps) (length ps) i ss
   pub total : given ≡ sum (listOf (roundedAt m P A ps) i)
   pub small : given ≤ i * seatLimit
 
 module _ (m : Method) {P A : ℕ} {ps : List ℕ} (k : States ps P) (aim : A ≤ aimLimit) where
   pub filling-none : (ss : List ℕ) → length ss ≡ length ps → Filling m P A ps 0 ss 0
   filling-none ss long =
-      record { so-far = fill-starts _ _ ss long; total = sym (sum-listOf-none (roundedAt m P A ps)); small = omega arith }
+      record { done = fill-starts _ _ ss long; total = sym (sum-listOf-none (roundedAt m P A ps)); small = omega arith }
 
   pub own-at-most : (i own : ℕ) → own ≡ roundedAt m P A ps i → own ≤ seatLimit
   own-at-most i own e = omega (arith, e, rounded-at-most m P A (getD ps i 0) (entry-at-most-total k i))
@@ -78,7 +80,7 @@ module _ (m : Method) {P A : ℕ} {ps : List ℕ} (k : States ps P) (aim : A ≤
       → own ≡ roundedAt m P A ps i → Filling m P A ps (i + 1) (set ss i own) (given + own)
   filling-more {i} {given} {own} {ss} f h e =
       record {
-        so-far = fill-goes-on _ _ i own ss h e (f .so-far);
+        done = fill-goes-on _ _ i own ss h e (f .done);
         total = omega (arith, f .total, e, sum-listOf-more (roundedAt m P A ps) i);
         small = omega (arith, f .small, own-at-most i own e);
       }
@@ -89,5 +91,5 @@ module _ (m : Method) {P A : ℕ} {ps : List ℕ} (k : States ps P) (aim : A ≤
 
   pub filling-done : {i given : ℕ} {ss : List ℕ} → Filling m P A ps i ss given → length ps ≤ i → Filled m ps A ss given
   filling-done {i} f past =
-      let all : i ≡ length ps = omega (arith, f .so-far .reached) in
-      record { seats = fill-ends _ _ _ _ past (f .so-far) ∙ sym rounded-by-place; total = f .total ∙ rw (all, rounded-by-place) }
+      let all : i ≡ length ps = omega (arith, f .done .reached) in
+      record { seats = fill-ends _ _ _ _ past (f .done) ∙ sym rounded-by-place; total = f .total ∙ rw (all, rounded-by-place) }

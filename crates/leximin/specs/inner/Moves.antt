@@ -48,8 +48,8 @@ abbrev pub Room : (up : Bool) (n : ℕ) (xs : List ℕ) (times : ℕ) → Type 0
 Room true n xs times = sum xs + times ≤ houseLimit
 Room false n xs times = n + times ≤ sum xs
 
--- The start, of which so many seats can be moved.
-pub record Movable (up : Bool) (ps xs : List ℕ) (P H times : ℕ) : Type 0 where
+-- The start of a problem, of which so many seats can be moved.
+pub record Movable (up : Bool) (ps : List ℕ) (P H : ℕ) (xs : List ℕ) (times : ℕ) : Type 0 where
   pub problem : Problem ps P H
   pub begun : xs ≡ startSeats ps H
   pub room : Room up (length ps) xs times
@@ -107,7 +107,7 @@ module _ {ps : List ℕ} {P H : ℕ} (problem : Problem ps P H) where
       (withdrawnTimes-standing n oneEach lt (size-order s) start k (s .someState) (start-standing s) (rw (sum-listOf-one n) room) .least)
       (withdrawn-at-most oneEach lt n start k)
 
-pub moved-sided : {ps xs : List ℕ} {P H times : ℕ} (up : Bool) → Movable up ps xs P H times → (k : ℕ) → k ≤ times
+pub moved-sided : {ps xs : List ℕ} {P H times : ℕ} (up : Bool) → Movable up ps P H xs times → (k : ℕ) → k ≤ times
     → Sided up ps P H (movedTimes up ps H xs k)
 unfolding movedTimes
 moved-sided true m k h = rw (m .begun) (placed-sided (m .problem) k (omega (arith, rw (m .begun) at (m .room))))
@@ -125,7 +125,7 @@ unfolding movedTimes placedTimes withdrawnTimes
 none-moved true ps H xs = refl
 none-moved false ps H xs = refl
 
-pub movable-sided : {up : Bool} {ps xs : List ℕ} {P H times : ℕ} → Movable up ps xs P H times → Sided up ps P H xs
+pub movable-sided : {up : Bool} {ps xs : List ℕ} {P H times : ℕ} → Movable up ps P H xs times → Sided up ps P H xs
 movable-sided {up} {ps} {xs} {P} {H} m = rw (none-moved up ps H xs) (moved-sided up m 0 zero-le)
 
 pub one-more-moved : (up : Bool) (ps : List ℕ) (H : ℕ) (xs : List ℕ) (k : ℕ)
@@ -143,7 +143,7 @@ moved-by-first true ps H xs = refl
 moved-by-first false ps H xs = refl
 
 module _ {up : Bool} {ps xs₀ xs t : List ℕ} {P H times done : ℕ}
-    (m : Movable up ps xs₀ P H times) (so-far : Moving up ps xs₀ H done xs t) where
+    (m : Movable up ps P H xs₀ times) (so-far : Moving up ps xs₀ H done xs t) where
   pub moving-sided : done ≤ times → Sided up ps P H xs
   moving-sided h = rw (so-far .seats) (moved-sided up m done h)
 

@@ -55,11 +55,11 @@ module _ {ps : List ℕ} {P H : ℕ} (problem : Problem ps P H) where
     total : start ≡ startTotal ps H
     total = start-added begun added
 
-    pub can-place : start < H → Movable true ps xs P H (H - start)
+    pub can-place : start < H → Movable true ps P H xs (H - start)
     unfolding startTotal
     can-place h = rw begun (record { problem = problem; begun = refl; room = omega (arith, total, problem .houseWithin) })
 
-    pub can-withdraw : length ps ≤ H → H ≤ start → Movable false ps xs P H (start - H)
+    pub can-withdraw : length ps ≤ H → H ≤ start → Movable false ps P H xs (start - H)
     unfolding startTotal
     can-withdraw fits h = rw begun (record { problem = problem; begun = refl; room = omega (arith, total) })
 

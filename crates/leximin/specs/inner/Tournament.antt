@@ -1,9 +1,11 @@
 -- The tournament among the states: how it decides between two of them, and what its functions ask and hand back. A move places a seat
 -- where `up` is true, and withdraws one otherwise.
 -- Assumes nothing.
+use mathlib.Core.Path.{_≡_, _∙_}
 use mathlib.Core.Bool.{Bool, true, false, cond}
 use mathlib.Core.List.{List}
-use Prim.Native.Nat.{ℕ, _+_, _/_, _<_}
+use Prim.Native.Nat.{ℕ, _+_, _/_, _<_, _≤_}
+use borrow.Author.Tests.{lt-ltb, le-ltb}
 use lib.ListN.{length, set}
 use Rattle.claims.specs.inner.Order.{wantsBefore, givesUpBefore}
 use Rattle.claims.specs.inner.SizeClaims.{sizeTest, oneEach}
@@ -20,6 +22,16 @@ movesBefore up ps H xs = cond up (wantsBefore (sizeTest ps H) xs) (givesUpBefore
 -- The one of two states that moves.
 abbrev pub betterState : (up : Bool) (ps : List ℕ) (H : ℕ) (xs : List ℕ) → ℕ → ℕ → ℕ
 betterState up ps H xs = better (movesBefore up ps H xs)
+
+-- The better of two places i and j, told by one test of the later against the earlier one; x and y are i and j as the test gets them.
+module _ (before : ℕ → ℕ → Bool) {i j x y r : ℕ} {t : Bool} (first : x ≡ i) (second : y ≡ j) where
+  pub later-is-second : i < j → t ≡ before y x → r ≡ cond t j i → r ≡ better before i j
+  unfolding better
+  later-is-second l test told = told ∙ rw (lt-ltb i j l, test, first, second)
+
+  pub later-is-first : j ≤ i → t ≡ before x y → r ≡ cond t i j → r ≡ better before i j
+  unfolding better
+  later-is-first l test told = told ∙ rw (le-ltb i j l, test, first, second)
 
 -- Two states of the list.
 abbrev pub Pair : (ps : List ℕ) (i j : ℕ) → Type 0

@@ -2,6 +2,7 @@
 -- `Stepping` has it.
 -- Assumes nothing.
 use mathlib.Core.Path.{_≡_, sym}
+use Prim.Native.Nat.{_≤_}
 use lib.ListN.{length}
 use lib.Seq.{length-take-le}
 use native.Mathlib.Omega.{arith}
@@ -20,14 +21,18 @@ full-people c = search needs
 full-seats : (c : tie.Start) → length (c .args .placing .seats) ≡ stateLimit
 full-seats c = search needs
 
+-- So they have a place for each state.
+people-for-all : (c : tie.Start) → c .args .placing .states ≤ length (c .args .placing .populations)
+people-for-all c = rw (full-people c) (states-fit _ (c .pre .0))
+
+seats-for-all : (c : tie.Start) → c .args .placing .states ≤ length (c .args .placing .seats)
+seats-for-all c = rw (full-seats c) (states-fit _ (c .pre .0))
+
 array-share-prefix-populations : tie.Need-array-share-prefix-populations
-array-share-prefix-populations c = omega (arith, full-people (c .before .before), states-fit _ (c .before .before .pre .0))
+array-share-prefix-populations c = people-for-all (c .before .before)
 
 slice-aggregate-total-of : tie.Need-slice-aggregate-total-of
-slice-aggregate-total-of c =
-    sym
-    (length-take-le _ _
-    (omega (arith, full-people (c .before .before .before), states-fit _ (c .before .before .before .pre .0))))
+slice-aggregate-total-of c = sym (length-take-le _ _ (people-for-all (c .before .before .before)))
 
 total-of-requires : tie.Need-total-of-requires
 total-of-requires c κs = search needs
@@ -35,25 +40,25 @@ total-of-requires c κs = search needs
 array-share-prefix-populations-2 : tie.Need-array-share-prefix-populations-2
 array-share-prefix-populations-2 c =
     let start = c .before .before .before .before .before in
-    omega (arith, full-people start, states-fit _ (start .pre .0))
+    people-for-all start
 
 slice-aggregate-place : tie.Need-slice-aggregate-place
 slice-aggregate-place c =
     let past = c .before .before .before .before .before in
     let start = past .before in
-    sym (length-take-le _ _ (omega (arith, full-people start, states-fit _ (start .pre .0))))
+    sym (length-take-le _ _ (people-for-all start))
 
 array-borrow-prefix-seats : tie.Need-array-borrow-prefix-seats
 array-borrow-prefix-seats c =
     let past = c .before .before .before .before .before in
     let start = past .before in
-    omega (arith, full-seats start, states-fit _ (start .pre .0))
+    seats-for-all start
 
 slice-aggregate-place-2 : tie.Need-slice-aggregate-place-2
 slice-aggregate-place-2 c =
     let past = c .before .before .before .before .before in
     let start = past .before .before in
-    sym (length-take-le _ _ (omega (arith, full-seats start, states-fit _ (start .pre .0))))
+    sym (length-take-le _ _ (seats-for-all start))
 
 place-requires : tie.Need-place-requires
 unfolding peopleOf
@@ -81,25 +86,25 @@ returns c =
 array-share-prefix-populations-3 : tie.Need-array-share-prefix-populations-3
 array-share-prefix-populations-3 c =
     let start = c .before .before .before .before .before in
-    omega (arith, full-people start, states-fit _ (start .pre .0))
+    people-for-all start
 
 slice-aggregate-withdraw : tie.Need-slice-aggregate-withdraw
 slice-aggregate-withdraw c =
     let past = c .before .before .before .before .before in
     let start = past .before in
-    sym (length-take-le _ _ (omega (arith, full-people start, states-fit _ (start .pre .0))))
+    sym (length-take-le _ _ (people-for-all start))
 
 array-borrow-prefix-seats-2 : tie.Need-array-borrow-prefix-seats-2
 array-borrow-prefix-seats-2 c =
     let past = c .before .before .before .before .before in
     let start = past .before in
-    omega (arith, full-seats start, states-fit _ (start .pre .0))
+    seats-for-all start
 
 slice-aggregate-withdraw-2 : tie.Need-slice-aggregate-withdraw-2
 slice-aggregate-withdraw-2 c =
     let past = c .before .before .before .before .before in
     let start = past .before .before in
-    sym (length-take-le _ _ (omega (arith, full-seats start, states-fit _ (start .pre .0))))
+    sym (length-take-le _ _ (seats-for-all start))
 
 withdraw-requires : tie.Need-withdraw-requires
 unfolding peopleOf

@@ -47,6 +47,7 @@ pub first-so-far-lt : (m : Method) (up : Bool) {ps ss : List ℕ} {i best : ℕ}
     → best ≡ firstPlace (movesBefore m up ps ss) (i - 1) → best < length ps
 first-so-far-lt m up {ps} {ss} {i} k h e = omega (arith, e, k .someState, firstPlace-le (movesBefore m up ps ss) (i - 1))
 
-pub first-lt : (m : Method) (up : Bool) {ps ss : List ℕ} {i : ℕ} → ClaimsFit ps ss → i ≡ firstToMove m up ps ss
-    → (i < length ps) × (i < length ss)
-first-lt m up k e = let within = first-so-far-lt m up k (omega arith) e in (within, omega (arith, within, k .sameLength))
+-- A state is found, the one that moves first.
+pub record MovesFirst (m : Method) (up : Bool) (ps ss : List ℕ) (i : ℕ) : Type 0 where
+  pub first : i ≡ firstToMove m up ps ss
+  pub within : i < length ps

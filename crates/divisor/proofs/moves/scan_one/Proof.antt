@@ -2,7 +2,6 @@
 -- Assumes nothing.
 use native.Mathlib.Omega.{arith}
 use borrow.Author.Needs.{needs}
-use Rattle.signposts.specs.inner.Order.{first-lt}
 use Rattle.divisor.specs.inner.Moves.{moved-once}
 use Rattle.divisor.proofs.moves.scan_one.Statement.{statement}
 use Rattle.divisor.proofs.moves.scan_one.Tie as tie
@@ -11,39 +10,28 @@ first-to-move-requires : tie.Need-first-to-move-requires
 first-to-move-requires c κs = search needs
 
 mul-moved : tie.Need-mul-moved
-mul-moved c =
-    let start = c .before .before .before .before in
-    omega (arith, first-lt _ _ (start .pre) (c .first-to-move .ensures))
+mul-moved c = search needs
 
 slice-read-moved : tie.Need-slice-read-moved
-slice-read-moved c =
-    let found = c .before in
-    let start = found .before .before .before .before in
-    first-lt _ _ (start .pre) (found .first-to-move .ensures) .1
+slice-read-moved c = search needs
 
 moved-requires : tie.Need-moved-requires
 moved-requires c κs =
     let found = c .before in
     let start = found .before .before .before .before in
-    omega (arith, start .pre .each _ (first-lt _ _ (start .pre) (found .first-to-move .ensures) .0) .seatsWithin)
+    omega (arith, start .pre .each _ (found .first-to-move .ensures .within) .seatsWithin)
 
 mul-seats : tie.Need-mul-seats
-mul-seats c =
-    let found = c .before .before in
-    let start = found .before .before .before .before in
-    omega (arith, first-lt _ _ (start .pre) (found .first-to-move .ensures))
+mul-seats c = search needs
 
 slice-write-seats : tie.Need-slice-write-seats
-slice-write-seats c =
-    let found = c .before .before in
-    let start = found .before .before .before .before in
-    first-lt _ _ (start .pre) (found .first-to-move .ensures) .1
+slice-write-seats c = search needs
 
 same-length : tie.Need-same-length
 same-length c = search needs
 
 returns : tie.Need-returns
-returns c = moved-once _ _ _ _ (c .before .before .first-to-move .ensures) (c .moved .ensures)
+returns c = moved-once _ _ _ _ (c .before .before .first-to-move .ensures .first) (c .moved .ensures)
 
 pub scan-one-spec : {M : Type 1} → statement M
 scan-one-spec =

@@ -1,14 +1,12 @@
 -- `divisor::rounding::rounded_of` is right because its test against the average is the definition's, in machine words.
 -- Assumes nothing.
-use mathlib.Core.Path.{sym, _∙_}
 use native.Mathlib.Omega.{arith}
 use native.Mathlib.Nat.{le-trans}
 use borrow.Author.Needs.{needs}
 use Rattle.apportionment.specs.Limits.{sumLimit}
-use Rattle.claims.specs.inner.DivisorClaims.{rounded}
 use Rattle.apportionment.specs.inner.MachineWords.{product-fits}
 use Rattle.signposts.specs.inner.Claims.{aimLimit}
-use Rattle.divisor.specs.inner.Rounding.{whole-at-most, whole-claim-fits, average-test}
+use Rattle.divisor.specs.inner.Rounding.{whole-at-most, whole-claim-fits, rounded-by-test}
 use Rattle.divisor.proofs.rounding.rounded_of.Statement.{statement}
 use Rattle.divisor.proofs.rounding.rounded_of.Tie as tie
 
@@ -31,14 +29,10 @@ claim-less-requires : tie.Need-claim-less-requires
 claim-less-requires c κs = search needs
 
 returns : tie.Need-returns
-unfolding rounded
 returns c =
-    let weight-of = c .before .before .before .before .weight-of in
-    let weight-of2 = c .before .before .before .weight-of2 in
-    let claim-of = c .before .before .claim-of in
-    let claim-less = c .before .claim-less in
-    let test = average-test _ _ _ _ _ (weight-of .ensures) (weight-of2 .ensures) (claim-of .ensures) in
-    simp (sym test ∙ sym (claim-less .ensures) ∙ c .if1 .taken)
+    let claimed = c .before .before in
+    rounded-by-test _ _ _ _ (claimed .before .before .weight-of .ensures) (claimed .before .weight-of2 .ensures)
+    (claimed .claim-of .ensures) (c .before .claim-less .ensures) (c .if1 .taken)
 
 add-result : tie.Need-add-result
 add-result c =
@@ -46,14 +40,10 @@ add-result c =
     omega (arith, whole-at-most (start .pre), start .pre .aimWithin)
 
 returns-2 : tie.Need-returns-2
-unfolding rounded
 returns-2 c =
-    let weight-of = c .before .before .before .before .weight-of in
-    let weight-of2 = c .before .before .before .weight-of2 in
-    let claim-of = c .before .before .claim-of in
-    let claim-less = c .before .claim-less in
-    let test = average-test _ _ _ _ _ (weight-of .ensures) (weight-of2 .ensures) (claim-of .ensures) in
-    simp (sym test ∙ sym (claim-less .ensures) ∙ c .if1 .left)
+    let claimed = c .before .before in
+    rounded-by-test _ _ _ _ (claimed .before .before .weight-of .ensures) (claimed .before .weight-of2 .ensures)
+    (claimed .claim-of .ensures) (c .before .claim-less .ensures) (c .if1 .left)
 
 pub rounded-of-spec : {M : Type 1} → statement M
 rounded-of-spec =

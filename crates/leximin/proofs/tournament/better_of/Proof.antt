@@ -1,8 +1,6 @@
 -- `leximin::tournament::better_of` meets its contract: the tests that were made pick the case of the definition.
 -- Assumes nothing.
-use mathlib.Core.Path.{sym, _∙_}
-use borrow.Author.Tests.{lt-ltb, le-ltb}
-use Rattle.claims.specs.inner.Tournament.{better}
+use Rattle.leximin.specs.inner.Tournament.{later-is-second, later-is-first}
 use borrow.Author.Needs.{needs}
 use Rattle.leximin.proofs.tournament.better_of.Statement.{statement}
 use Rattle.leximin.proofs.tournament.better_of.Tie as tie
@@ -17,43 +15,35 @@ moves-before-requires : tie.Need-moves-before-requires
 moves-before-requires c κs = search needs
 
 returns : tie.Need-returns
-unfolding better
 returns c =
     let at-if1 = c .before .before in
     let at-wide2 = at-if1 .before in
-    let at-wide = at-wide2 .before in
-    let tested = rw (at-wide2 .wide2 .ensures, at-wide .wide .ensures) at (c .before .moves-before .ensures) in
-    simp (lt-ltb _ _ (at-if1 .if1 .taken), ← tested, c .if2 .taken)
+    later-is-second _ (at-wide2 .before .wide .ensures) (at-wide2 .wide2 .ensures) (at-if1 .if1 .taken) (c .before .moves-before .ensures)
+    (rw (c .if2 .taken))
 
 returns-2 : tie.Need-returns-2
-unfolding better
 returns-2 c =
     let at-if1 = c .before .before in
     let at-wide2 = at-if1 .before in
-    let at-wide = at-wide2 .before in
-    let tested = rw (at-wide2 .wide2 .ensures, at-wide .wide .ensures) at (c .before .moves-before .ensures) in
-    simp (lt-ltb _ _ (at-if1 .if1 .taken), ← tested, c .if2 .left)
+    later-is-second _ (at-wide2 .before .wide .ensures) (at-wide2 .wide2 .ensures) (at-if1 .if1 .taken) (c .before .moves-before .ensures)
+    (rw (c .if2 .left))
 
 moves-before-requires-2 : tie.Need-moves-before-requires-2
 moves-before-requires-2 c κs = search needs
 
 returns-3 : tie.Need-returns-3
-unfolding better
 returns-3 c =
     let at-if1 = c .before .before in
     let at-wide2 = at-if1 .before in
-    let at-wide = at-wide2 .before in
-    let tested = rw (at-wide .wide .ensures, at-wide2 .wide2 .ensures) at (c .before .moves-before2 .ensures) in
-    simp (le-ltb _ _ (at-if1 .if1 .left), ← tested, c .if3 .taken)
+    later-is-first _ (at-wide2 .before .wide .ensures) (at-wide2 .wide2 .ensures) (at-if1 .if1 .left) (c .before .moves-before2 .ensures)
+    (rw (c .if3 .taken))
 
 returns-4 : tie.Need-returns-4
-unfolding better
 returns-4 c =
     let at-if1 = c .before .before in
     let at-wide2 = at-if1 .before in
-    let at-wide = at-wide2 .before in
-    let tested = rw (at-wide .wide .ensures, at-wide2 .wide2 .ensures) at (c .before .moves-before2 .ensures) in
-    simp (le-ltb _ _ (at-if1 .if1 .left), ← tested, c .if3 .left)
+    later-is-first _ (at-wide2 .before .wide .ensures) (at-wide2 .wide2 .ensures) (at-if1 .if1 .left) (c .before .moves-before2 .ensures)
+    (rw (c .if3 .left))
 
 pub better-of-spec : {M : Type 1} → statement M
 better-of-spec =

@@ -5,6 +5,7 @@ use Rattle.placing.specs.inner.Telling.{same-first, last-test}
 use mathlib.Core.Path.{_≡_, sym, _∙_}
 use mathlib.Core.Bool.{false≢true}
 use native.Mathlib.Omega.{arith}
+use Prim.Native.Nat.{_≤_}
 use lib.ListN.{length}
 use lib.Seq.{length-take-le}
 use Rattle.apportionment.specs.Limits.{stateLimit}
@@ -21,15 +22,22 @@ full-people c = search needs
 full-seats : (c : tie.Start) → length (c .args .placing .seats) ≡ stateLimit
 full-seats c = search needs
 
+-- So they have as many places as pass the test.
+people-for-all : (c : tie.Start) → c .args .placing .states ≤ stateLimit → c .args .placing .states ≤ length (c .args .placing .populations)
+people-for-all c few = rw (full-people c) few
+
+seats-for-all : (c : tie.Start) → c .args .placing .states ≤ stateLimit → c .args .placing .states ≤ length (c .args .placing .seats)
+seats-for-all c few = rw (full-seats c) few
+
 returns : tie.Need-returns
 returns c = sym (not-genuine _ (λ t. omega (arith, t .statesFit, c .if1 .taken)))
 
 array-share-prefix-populations : tie.Need-array-share-prefix-populations
-array-share-prefix-populations c = omega (arith, full-people (c .before .before .before), c .if1 .left)
+array-share-prefix-populations c = people-for-all (c .before .before .before) (c .if1 .left)
 
 slice-aggregate-open-refusal : tie.Need-slice-aggregate-open-refusal
 slice-aggregate-open-refusal c =
-    sym (length-take-le _ _ (omega (arith, full-people (c .before .before .before .before), c .before .if1 .left)))
+    sym (length-take-le _ _ (people-for-all (c .before .before .before .before) (c .before .if1 .left)))
 
 open-refusal-requires : tie.Need-open-refusal-requires
 open-refusal-requires c κs = search needs
@@ -42,13 +50,13 @@ array-share-prefix-populations-2 : tie.Need-array-share-prefix-populations-2
 array-share-prefix-populations-2 c =
     let at-if1 = c .before .before .before in
     let start = at-if1 .before .before .before in
-    omega (arith, full-people start, at-if1 .if1 .left)
+    people-for-all start (at-if1 .if1 .left)
 
 slice-aggregate-total-of : tie.Need-slice-aggregate-total-of
 slice-aggregate-total-of c =
     let at-if1 = c .before .before .before .before in
     let start = at-if1 .before .before .before in
-    sym (length-take-le _ _ (omega (arith, full-people start, at-if1 .if1 .left)))
+    sym (length-take-le _ _ (people-for-all start (at-if1 .if1 .left)))
 
 total-of-requires : tie.Need-total-of-requires
 total-of-requires c κs = search needs
@@ -57,14 +65,14 @@ array-share-prefix-populations-3 : tie.Need-array-share-prefix-populations-3
 array-share-prefix-populations-3 c =
     let at-if1 = c .before .before .before .before .before in
     let start = at-if1 .before .before .before in
-    omega (arith, full-people start, at-if1 .if1 .left)
+    people-for-all start (at-if1 .if1 .left)
 
 slice-aggregate-steps-agree : tie.Need-slice-aggregate-steps-agree
 slice-aggregate-steps-agree c =
     let past = c .before .before .before .before .before in
     let at-if1 = past .before in
     let start = at-if1 .before .before .before in
-    sym (length-take-le _ _ (omega (arith, full-people start, at-if1 .if1 .left)))
+    sym (length-take-le _ _ (people-for-all start (at-if1 .if1 .left)))
 
 steps-agree-requires : tie.Need-steps-agree-requires
 steps-agree-requires c κs =
@@ -77,28 +85,28 @@ array-share-prefix-populations-4 c =
     let past = c .before .before .before .before .before in
     let at-if1 = past .before .before .before in
     let start = at-if1 .before .before .before in
-    omega (arith, full-people start, at-if1 .if1 .left)
+    people-for-all start (at-if1 .if1 .left)
 
 slice-aggregate-seats-agree : tie.Need-slice-aggregate-seats-agree
 slice-aggregate-seats-agree c =
     let past = c .before .before .before .before .before in
     let at-if1 = past .before .before .before .before in
     let start = at-if1 .before .before .before in
-    sym (length-take-le _ _ (omega (arith, full-people start, at-if1 .if1 .left)))
+    sym (length-take-le _ _ (people-for-all start (at-if1 .if1 .left)))
 
 array-share-prefix-seats : tie.Need-array-share-prefix-seats
 array-share-prefix-seats c =
     let past = c .before .before .before .before .before in
     let at-if1 = past .before .before .before .before in
     let start = at-if1 .before .before .before in
-    omega (arith, full-seats start, at-if1 .if1 .left)
+    seats-for-all start (at-if1 .if1 .left)
 
 slice-aggregate-seats-agree-2 : tie.Need-slice-aggregate-seats-agree-2
 slice-aggregate-seats-agree-2 c =
     let past = c .before .before .before .before .before in
     let at-if1 = past .before .before .before .before .before in
     let start = at-if1 .before .before .before in
-    sym (length-take-le _ _ (omega (arith, full-seats start, at-if1 .if1 .left)))
+    sym (length-take-le _ _ (seats-for-all start (at-if1 .if1 .left)))
 
 seats-agree-requires : tie.Need-seats-agree-requires
 seats-agree-requires c κs =

@@ -49,8 +49,9 @@ loop-again c =
 returns : tie.Need-returns Inv-loop μ-loop
 returns c =
     let turn = c .before .loop in
-    let all : turn .i ≡ length (c .before .before .before .before .args .populations .now) = omega (arith, turn .inv .1) in
-    turn .inv .2 ∙ rw all
+    let start = c .before .before .before .before in
+    let all : turn .i ≡ length (start .args .populations .now) = omega (arith, turn .inv .1) in
+    record { first = turn .inv .2 ∙ rw all; within = first-so-far-lt _ _ (start .pre) (turn .inv .1) (turn .inv .2) }
 
 pub first-to-move-spec : {M : Type 1} → statement M
 first-to-move-spec =
