@@ -3,4 +3,5 @@ pub mod Tests
 pub mod Lists
 pub mod Filling
 pub mod Checks
+pub mod Methods
 pub mod Problem

@@ -3,6 +3,7 @@
 use mathlib.Core.Option.{Option, Option·getD}
 use Prim.Native.Nat.{ℕ}
 use lib.IntN.{ℤ, pos}
+use Rattle.apportionment.specs.Methods.{methodNumber}
 use Rattle.apportionment.specs.declared.Mark.{Mark}
 use Rattle.apportionment.specs.declared.Mark.the-variants.{None}
 use Rattle.departure.specs.Answer.{departureRefusal, departureShown, departureMark}
@@ -15,7 +16,7 @@ use Rattle.desk.specs.declared.DeskPlacing.{DeskPlacing}
 use Rattle.desk.specs.declared.DeskPlaced.{DeskPlaced}
 use Rattle.desk.specs.declared.DeskShown.{DeskShown}
 use Rattle.desk.specs.declared.DeskWritten.{DeskWritten}
-use Rattle.desk.specs.Numbers.{methodNumber, markNumber}
+use Rattle.desk.specs.Numbers.{markNumber}
 
 unfoldable pub exportedReading : Reading → DeskReading
 exportedReading r =
