@@ -30,7 +30,7 @@ exportedReading r =
       populations = r .populations;
     }
 
-unfoldable pub exportedPlacing : Placing → DeskPlacing
+abbrev pub exportedPlacing : Placing → DeskPlacing
 exportedPlacing p =
     record {
       states = p .states;
@@ -42,7 +42,7 @@ exportedPlacing p =
     }
 
 -- The placing that a caller hands in.
-unfoldable pub innerPlacing : DeskPlacing → Placing
+abbrev pub innerPlacing : DeskPlacing → Placing
 innerPlacing p =
     record {
       states = p .states;
@@ -65,5 +65,5 @@ unfoldable pub exportedDeparture : (p a P H : ℕ) → DeskShown
 exportedDeparture p a P H =
     exportedShown (departureRefusal p a P H) (departureShown p a P H) (departureMark p a P H)
 
-unfoldable pub exportedListed : Listed → DeskWritten
+abbrev pub exportedListed : Listed → DeskWritten
 exportedListed l = record { refusal = l .refusal; line = l .line; length = l .size }

@@ -9,7 +9,7 @@ use Rattle.apportionment.specs.declared.Mark.the-variants.{In, High, Over, None
 abbrev pub markNone : ℕ
 markNone = 3
 
-unfoldable pub markNumber : Mark → ℕ
+abbrev pub markNumber : Mark → ℕ
 markNumber In = 0
 markNumber High = 1
 markNumber Over = 2
