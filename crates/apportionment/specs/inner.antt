@@ -3,5 +3,6 @@ pub mod Tests
 pub mod Lists
 pub mod Filling
 pub mod Checks
+pub mod Methods
 pub mod Problem
 pub mod MachineWords
