@@ -2,7 +2,7 @@
 -- computed answers. How large a shown departure can be is in apportionment/specs/inner/Quantities.antt.
 -- Assumes nothing.
 use mathlib.Core.Path.{_≡_, refl}
-use mathlib.Core.Bool.{Bool, true, false, cond}
+use mathlib.Core.Bool.{cond}
 use mathlib.Core.List.{List, [], _∷_, map}
 use mathlib.Core.Option.{Option}
 use Prim.Native.Nat.{ℕ, suc, _+_, _-_, _*_, _<_}
@@ -11,6 +11,7 @@ use native.Mathlib.Numerals.{add-one}
 use native.Mathlib.Omega.{arith}
 use lib.IntN.{ℤ, pos, negsuc, negℤ}
 use Rattle.apportionment.specs.Checks.{within, outside, firstRefusal}
+use Rattle.apportionment.specs.inner.Tests.{cond-both}
 use Rattle.apportionment.specs.Quantities.{atMost, distance, hundredthsOf, isBelow, markFor, markOf, nearestWhole, shownOf, sizeOf}
 use Rattle.apportionment.specs.declared.Mark.{Mark}
 use Rattle.apportionment.specs.declared.Mark.the-variants.{In, High, Over}
@@ -23,11 +24,8 @@ use Rattle.departure.specs.Answer.{departureChecks, departureMark, depar
 -- What rounds to zero has no sign.
 pub zero-has-no-sign : (p a P H : ℕ) → hundredthsOf (sizeOf p a P H) ≡ 0 → shownOf p a P H ≡ pos 0
 unfolding shownOf
-zero-has-no-sign p a P H e = rw e (by (isBelow p a P H))
-  where
-    by : (t : Bool) → cond t (negℤ (pos 0)) (pos 0) ≡ pos 0
-    by true = refl
-    by false = refl
+zero-has-no-sign p a P H e =
+    rw e (cond-both (λ (shown : ℤ). shown ≡ pos 0) (isBelow p a P H) (negℤ (pos 0)) (pos 0) (λ _. refl) (λ _. refl))
 
 nothing-over : (p a P H : ℕ) → 0 < a * P → p * H ≡ a * P → hundredthsOf (sizeOf p a P H) ≡ 0
 unfolding hundredthsOf sizeOf distance nearestWhole

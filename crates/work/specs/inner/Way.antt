@@ -1,8 +1,7 @@
 -- The way from the placing that opening gives to the house, which the program prints: stepping goes through it to its end, and every
--- placing on it can be shown, so that each block fits its page.
+-- placing on it and every step between two of them can be shown, so that each block is written and fits its page.
 -- Assumes nothing.
 use mathlib.Core.Path.{_≡_, refl, sym, _∙_, ap}
-use mathlib.Core.Bool.{Bool, true, false}
 use mathlib.Core.List.{List}
 use Prim.Native.Nat.{ℕ, suc, _+_, _-_, _<_, _≤_}
 use native.Mathlib.Nat.{le-antisymm, le-trans}
@@ -71,11 +70,10 @@ module _ (ps : List ℕ) (H : ℕ) (opens : openRefusal ps H ≡ accepted) (m : 
 
   total-limited : totalAfter ps H m ≤ totalLimit
   unfolding totalAfter gap distance
-  total-limited = by-direction (ltb (startTotal ps H) H) refl
-    where
-      by-direction : (t : Bool) → ltb (startTotal ps H) H ≡ t → totalAfter ps H m ≤ totalLimit
-      by-direction true e = rw e (omega (arith, few, passed .problem .houseWithin, ltb-true (startTotal ps H) H e))
-      by-direction false e = rw e (omega (arith, few-steps, passed .problem .houseWithin, ltb-false (startTotal ps H) H e))
+  total-limited =
+      either-way (ltb (startTotal ps H) H)
+      (λ below. rw below (omega (arith, few, passed .problem .houseWithin, ltb-true (startTotal ps H) H below)))
+      (λ above. rw above (omega (arith, few-steps, passed .problem .houseWithin, ltb-false (startTotal ps H) H above)))
 
   -- The seats that so many steps lead to.
   abbrev seats : List ℕ
@@ -209,21 +207,19 @@ module _ {rows : List ℕ} {start : Placing} {P : ℕ} (begun : Begun rows start
 
     -- A step that is not refused leads to the next placing ..
     pub step-goes-on : r .refusal ≡ accepted → (m < wayOf start) × (r .placing ≡ onTheWay start (m + 1))
-    step-goes-on accepts = by-test (ltb m (wayOf start)) refl
-      where
-        by-test : (t : Bool) → ltb m (wayOf start) ≡ t → (m < wayOf start) × (r .placing ≡ onTheWay start (m + 1))
-        by-test true left =
-            let below = ltb-true m (wayOf start) left in
-            (below, ap (λ (x : Placed). x .placing) (before-the-house below) ∙ ap (onTheWay start) (omega arith))
-        by-test false there = absurd (omega (arith, accepts, at-the-house (ltb-false m (wayOf start) there)))
+    step-goes-on accepts =
+        either-way (ltb m (wayOf start))
+        (λ left.
+        let below = ltb-true m (wayOf start) left in
+        (below, ap (λ (x : Placed). x .placing) (before-the-house below) ∙ ap (onTheWay start) (omega arith)))
+        (λ there. absurd (omega (arith, accepts, at-the-house (ltb-false m (wayOf start) there))))
 
     -- .. and one that is refused stands at the house.
     pub step-at-end : (r .refusal ≡ accepted → ⊥) → p ≡ onTheWay start (wayOf start)
-    step-at-end refused = by-test (ltb m (wayOf start)) refl
-      where
-        by-test : (t : Bool) → ltb m (wayOf start) ≡ t → p ≡ onTheWay start (wayOf start)
-        by-test true left = absurd (refused (ap (λ (x : Placed). x .refusal) (before-the-house (ltb-true m (wayOf start) left))))
-        by-test false there = is ∙ ap (onTheWay start) (le-antisymm few (ltb-false m (wayOf start) there))
+    step-at-end refused =
+        either-way (ltb m (wayOf start))
+        (λ left. absurd (refused (ap (λ (x : Placed). x .refusal) (before-the-house (ltb-true m (wayOf start) left)))))
+        (λ there. is ∙ ap (onTheWay start) (le-antisymm few (ltb-false m (wayOf start) there)))
 
 -- ---- a register that opens begins it
 
@@ -242,7 +238,13 @@ start-begins rows ps H opens named =
 pub read-begins : (s : List ℕ) (r : Reading) (o : Placed) → r ≡ readingOf s → r .refusal ≡ accepted
     → o ≡ openedOf (take (r .states) (r .populations)) (r .house) → o .refusal ≡ accepted → Begun (rowsOf s) (o .placing) (r .total)
 unfolding openedOf
-read-begins s r o read good opened accepts = by-refusal (eqb (openRefusal ps (r .house)) accepted) refl
+read-begins s r o read good opened accepts =
+    either-way (eqb (openRefusal ps (r .house)) accepted)
+    (λ opens.
+    let handed : o ≡ record { refusal = accepted; placing = started ps (r .house) } = rw opens at opened in
+    let begins : o .placing ≡ started ps (r .house) = ap (λ (x : Placed). x .placing) handed in
+    rw (begins, sound .populations .summed) (start-begins (rowsOf s) ps (r .house) (eqb-true _ _ opens) named))
+    (λ refuses. absurd (eqb-false _ _ refuses (sym (ap (λ (x : Placed). x .refusal) (rw refuses at opened)) ∙ accepts)))
   where
     ps : List ℕ
     ps = take (r .states) (r .populations)
@@ -257,10 +259,3 @@ read-begins s r o read good opened accepts = by-refusal (eqb (openRefusal ps (r 
     named i below =
         let inside : i < r .states = omega (arith, each) in
         name-limited s (rw read at good) i (rw read at inside)
-
-    by-refusal : (t : Bool) → eqb (openRefusal ps (r .house)) accepted ≡ t → Begun (rowsOf s) (o .placing) (r .total)
-    by-refusal true t =
-        let handed : o ≡ record { refusal = accepted; placing = started ps (r .house) } = rw t at opened in
-        let begins : o .placing ≡ started ps (r .house) = ap (λ (x : Placed). x .placing) handed in
-        rw (begins, sound .populations .summed) (start-begins (rowsOf s) ps (r .house) (eqb-true _ _ t) named)
-    by-refusal false t = absurd (eqb-false _ _ t (sym (ap (λ (x : Placed). x .refusal) (rw t at opened)) ∙ accepts))
