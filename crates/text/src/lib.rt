@@ -1,6 +1,8 @@
 // Writing text into a lent buffer. Each function writes from place `at` on and hands back the place after what it wrote; once something
 // did not fit, that is one past the buffer's length, and every later call leaves it there and the buffer as it is. So a caller writes all
 // that it has and asks once, at the end, whether it fitted. No function reads the place as an index before it is known to be one.
+pub mod answers;
+
 use apportionment::Mark;
 use apportionment::Method;
 use apportionment::methods;
