@@ -14,7 +14,7 @@ use Rattle.apportionment.specs.Refusals.{accepted, bufferTooShort}
 use Rattle.apportionment.specs.Lists.{sum}
 use Rattle.apportionment.specs.inner.Lists.{entry-at-most-sum}
 use Rattle.apportionment.specs.Allotment.{seatsAfter}
-use Rattle.problem.specs.inner.Passed.{AllotPassed, allot-passed}
+use Rattle.problem.specs.inner.Passed.{Allottable, allot-passed}
 use Rattle.allot.specs.declared.Allotted.{Allotted}
 use Rattle.allot.specs.Allot.{allottedOf, AllotmentIs}
 use Rattle.departure.specs.inner.Answer.{InLimits}
@@ -43,7 +43,7 @@ module _ (s : List ℕ) (good : readingOf s .refusal ≡ accepted) (allotted : a
   counted : length (populationsIn (readingOf s)) ≡ readingOf s .states
   counted = length-take-le _ _ each-read
 
-  passed : AllotPassed (readingOf s .method) (readingOf s .house) (populationsIn (readingOf s)) (readingOf s .states)
+  passed : Allottable (readingOf s .method) (readingOf s .house) (populationsIn (readingOf s)) (readingOf s .states)
   unfolding allotRefusalIn
   passed = allot-passed _ _ _ _ allotted
 
@@ -55,7 +55,7 @@ module _ (s : List ℕ) (good : readingOf s .refusal ≡ accepted) (allotted : a
       → InLimits (getD (populationsIn (readingOf s)) i 0) (getD (seatsIn (readingOf s)) i 0) (readingOf s .total) (readingOf s .house)
   within i below =
       let so = sound .populations in
-      let some = passed .problem .peopled i (omega (arith, counted)) in
+      let some = passed .problem .states .peopled i (omega (arith, counted)) in
       let most = entry-at-most-sum (populationsIn (readingOf s)) i in
       record {
         some-total = omega (arith, so .summed);

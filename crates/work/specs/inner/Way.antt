@@ -18,14 +18,14 @@ use Rattle.apportionment.specs.inner.Lists.{entry-at-most-sum}
 use Rattle.apportionment.specs.Quantities.{distance}
 use Rattle.apportionment.specs.Leximin.{leximinFor, startSeats, startTotal, gap, totalAfter}
 use Rattle.claims.specs.inner.StartBounds.{gap-below-states}
-use Rattle.claims.specs.inner.SizeClaims.{sizeTest, oneEach}
+use Rattle.claims.specs.inner.SizeClaims.{problem-positive, sizeTest, oneEach}
 use Rattle.claims.specs.inner.DivisorSeats.{withdrawn-at-most}
 use Rattle.claims.specs.inner.LeximinSteps.{lexMoved, moved-leximin, states-at-most-passed}
 use Rattle.claims.specs.inner.Allotments.{Allotment}
 use Rattle.claims.specs.inner.LeastOfAll.{leximin-least-of-all}
 use Rattle.apportionment.specs.Allotment.{openRefusal}
-use Rattle.problem.specs.inner.Passed.{OpenPassed, open-passed}
-use Rattle.leximin.specs.inner.Start.{ready-sound, start-within-house}
+use Rattle.problem.specs.inner.Passed.{Openable, open-passed}
+use Rattle.leximin.specs.inner.Start.{start-within-house}
 use Rattle.departure.specs.inner.Answer.{InLimits}
 use Rattle.register.specs.Register.{readingOf}
 use Rattle.register.specs.Names.{rowsOf, nameInRow}
@@ -34,7 +34,6 @@ use Rattle.register.specs.inner.Rows.{nameLimit, name-limited}
 use Rattle.register.specs.declared.Reading.{Reading}
 use Rattle.placing.specs.Placing.{started, placingAt, openedOf, steppedOf, refusedWith, peopleOf}
 use Rattle.placing.specs.inner.Lists.{take-padded}
-use Rattle.placing.specs.inner.Telling.{opened-ready}
 use Rattle.placing.specs.inner.Walk.{start-is-first, step-before-house, step-at-house}
 use Rattle.placing.specs.declared.Placing.{Placing}
 use Rattle.placing.specs.declared.Placed.{Placed}
@@ -62,11 +61,11 @@ pub record Begun (rows : List ℕ) (start : Placing) (P : ℕ) : Type 0 where
 -- ---- every placing on it can be shown
 
 module _ (ps : List ℕ) (H : ℕ) (opens : openRefusal ps H ≡ accepted) (m : ℕ) (few : m ≤ gap ps H) where
-  passed : OpenPassed ps H
+  passed : Openable ps H
   passed = open-passed ps H opens
 
   few-steps : gap ps H < stateLimit
-  few-steps = omega (arith, gap-below-states (ready-sound (opened-ready passed)), passed .problem .statesWithin)
+  few-steps = omega (arith, gap-below-states (problem-positive (passed .problem)), passed .problem .states .statesWithin)
 
   total-limited : totalAfter ps H m ≤ totalLimit
   unfolding totalAfter gap distance
@@ -81,8 +80,8 @@ module _ (ps : List ℕ) (H : ℕ) (opens : openRefusal ps H ≡ accepted) (m : 
 
   allotted : Allotment (length ps) (totalAfter ps H m) seats
   allotted =
-      let sound = ready-sound (opened-ready passed) in
-      leximin-least-of-all sound (totalAfter ps H m) (states-at-most-passed sound (passed .seatForEach) m few) .allotted
+      let positive = problem-positive (passed .problem) in
+      leximin-least-of-all positive (totalAfter ps H m) (states-at-most-passed positive (passed .seatForEach) m few) .allotted
 
   -- No state has more seats than the house: placing ends at the house, and withdrawing begins at nearest seats.
   within-house : (i : ℕ) → getD seats i 0 ≤ H
@@ -93,15 +92,15 @@ module _ (ps : List ℕ) (H : ℕ) (opens : openRefusal ps H ≡ accepted) (m : 
       let ends : totalAfter ps H m ≤ H = rw below (omega (arith, few, ltb-true (startTotal ps H) H below)) in
       le-trans (entry-at-most-sum seats i) (rw (allotted .whole) ends))
       (λ above.
-      rw (← moved-leximin (ready-sound (opened-ready passed)) (passed .seatForEach) m few, above)
-      (le-trans (withdrawn-at-most oneEach (sizeTest ps H) (length ps) (startSeats ps H) m i) (start-within-house (opened-ready passed) i)))
+      rw (← moved-leximin (problem-positive (passed .problem)) (passed .seatForEach) m few, above)
+      (le-trans (withdrawn-at-most oneEach (sizeTest ps H) (length ps) (startSeats ps H) m i) (start-within-house (passed .problem) i)))
 
   state-in-limits : (i : ℕ) → i < length ps → InLimits (getD ps i 0) (getD seats i 0) (sum ps) H
   state-in-limits i below =
-      let peopled = passed .problem .peopled i below in
+      let peopled = passed .problem .states .peopled i below in
       record {
         some-total = omega (arith, entry-at-most-sum ps i);
-        total-limited = passed .problem .sumWithin;
+        total-limited = passed .problem .states .sumWithin;
         some-house = passed .problem .someSeat;
         house-limited = passed .problem .houseWithin;
         some-people = peopled;
@@ -123,14 +122,14 @@ module _ (ps : List ℕ) (H : ℕ) (opens : openRefusal ps H ≡ accepted) (m : 
   unfolding placingAt
   way-showable rows named =
       record {
-        few-states = passed .problem .statesWithin;
+        few-states = passed .problem .states .statesWithin;
         counted = ap length own-people;
         short-names = named;
         in-limits = rw (own-people, own-seats) (record { paired = allotted .states; each = state-in-limits });
         seated = rw own-seats (allotted .each);
         unfilled = λ short i below. rw own-seats (omega (arith, entry-at-most-sum seats i, allotted .whole));
         house-limited = passed .problem .houseWithin;
-        sum-limited = passed .problem .sumWithin;
+        sum-limited = passed .problem .states .sumWithin;
         total-limited = total-limited;
         few-steps = omega (arith, few, few-steps);
       }
