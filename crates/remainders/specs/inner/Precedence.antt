@@ -1,18 +1,18 @@
 -- The precedence of a state is the number by which the seats that are left are served, the larger first; equal ones go in register order.
 -- What the method says of the order of states is told once, by `precedence-decides`: another order is another precedence.
 -- Assumes nothing.
-use mathlib.Core.Path.{_≡_, refl, sym, _∙_}
+use mathlib.Core.Path.{_≡_, refl, sym}
 use mathlib.Core.Bool.{Bool, true, false, cond}
 use mathlib.Core.List.{List}
 use Prim.Native.Nat.{ℕ, _+_, _*_, _%_, _≤_, _<_}
 use native.Mathlib.Omega.{arith}
-use native.Mathlib.Nat.{zero-add}
 use lib.Dec.{ltb, leb}
 use lib.ListN.{length, getD}
 use borrow.Author.Tests.{ltb-true, ltb-false, lt-ltb, le-ltb, le-leb, lt-leb}
 use Rattle.apportionment.specs.Lists.{sum, countBelow, listOf}
 use Rattle.apportionment.specs.Remainders.{remainder, servedBefore, rank}
-use Rattle.apportionment.specs.inner.Lists.{length-listOf, getD-listOf, count-one-more, count-agrees, count-splits}
+use Rattle.apportionment.specs.inner.Lists.{length-listOf, getD-listOf, count-agrees, count-splits}
+use Rattle.bar.specs.inner.Reaching.{reaches}
 
 -- The precedence of a state of population p: its remainder.
 unfoldable pub precedenceOf : (p P H : ℕ) → ℕ
@@ -67,21 +67,6 @@ rank-is ps H i hi =
     (λ (j : ℕ) (hj : j < length ps). precedence-decides ps H i j hi hj))
 
 -- ---- a rank is two counts of plain comparisons
-
--- Place j has a precedence of `least` or more.
-unfoldable pub reaches : (xs : List ℕ) (least j : ℕ) → Bool
-reaches xs least j = leb least (getD xs j 0)
-
--- One place more is counted if it reaches.
-pub count-reached : (xs : List ℕ) (least j : ℕ) → least ≤ getD xs j 0
-    → countBelow (reaches xs least) (j + 1) ≡ 1 + countBelow (reaches xs least) j
-unfolding reaches
-count-reached xs least j h = count-one-more (reaches xs least) j ∙ simp (le-leb least (getD xs j 0) h)
-
-pub count-passed-by : (xs : List ℕ) (least j : ℕ) → getD xs j 0 < least
-    → countBelow (reaches xs least) (j + 1) ≡ countBelow (reaches xs least) j
-unfolding reaches
-count-passed-by xs least j h = count-one-more (reaches xs least) j ∙ simp (lt-leb least (getD xs j 0) h, zero-add)
 
 -- An earlier state is served before if its precedence is as high, a later one only if it is higher.
 precedes-reaches : (a x : ℕ) (early : Bool) → cond (ltb a x) true (cond (ltb x a) false early) ≡ cond early (leb a x) (leb (a + 1) x)

@@ -1,11 +1,11 @@
--- `remainders::bar_of` meets its contract. The loop's invariant: the range holds the bar. The measure is its width.
+-- `bar::bar_of` meets its contract. The loop's invariant: the range holds the bar. The measure is its width.
 -- Assumes nothing.
 use Prim.Native.Nat.{_-_}
 use native.Mathlib.Omega.{arith}
 use borrow.Author.Needs.{needs}
-use Rattle.remainders.specs.inner.Search.{HoldsBar, whole-holds-bar, one-number-is-bar}
-use Rattle.remainders.proofs.bar_of.Statement.{statement}
-use Rattle.remainders.proofs.bar_of.Tie as tie
+use Rattle.bar.specs.inner.Search.{HoldsBar, whole-holds-bar, one-number-is-bar}
+use Rattle.bar.proofs.bar_of.Statement.{statement}
+use Rattle.bar.proofs.bar_of.Tie as tie
 
 abbrev Inv-loop : tie.InvT-loop
 Inv-loop precedences left least greatest states few most guess range₀ range = HoldsBar precedences left range

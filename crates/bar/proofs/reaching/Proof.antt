@@ -1,4 +1,4 @@
--- `remainders::reaching` meets its contract. The loop's invariant: the count is that of the states passed. The measure is what is left of
+-- `bar::reaching` meets its contract. The loop's invariant: the count is that of the states passed. The measure is what is left of
 -- the list.
 -- Assumes nothing.
 use Rattle.apportionment.specs.inner.Lists.{count-none, count-within}
@@ -8,10 +8,10 @@ use Prim.Native.Nat.{_-_, _≤_}
 use native.Mathlib.Omega.{arith}
 use lib.ListN.{length}
 use borrow.Author.Needs.{needs}
-use Rattle.remainders.specs.inner.Precedence.{count-reached, count-passed-by, reaches}
-use Rattle.remainders.specs.inner.Bar.{reaching}
-use Rattle.remainders.proofs.reaching.Statement.{statement}
-use Rattle.remainders.proofs.reaching.Tie as tie
+use Rattle.bar.specs.inner.Reaching.{count-reached, count-passed-by, reaches}
+use Rattle.bar.specs.inner.Reaching.{reaching}
+use Rattle.bar.proofs.reaching.Statement.{statement}
+use Rattle.bar.proofs.reaching.Tie as tie
 
 abbrev Inv-loop : tie.InvT-loop
 Inv-loop precedences least count₀ j₀ count j = (j ≤ length precedences) × (count ≡ reaching precedences least j)

@@ -1,11 +1,11 @@
--- `remainders::first_guess` meets its contract: the shares of the seats left are no more than what lies between the ends.
+-- `bar::first_guess` meets its contract: the shares of the seats left are no more than what lies between the ends.
 -- Assumes nothing.
 use native.Mathlib.Omega.{arith}
 use Prim.Native.Nat.{_-_}
 use borrow.Author.Needs.{needs}
-use Rattle.remainders.specs.inner.Search.{shares-within}
-use Rattle.remainders.proofs.first_guess.Statement.{statement}
-use Rattle.remainders.proofs.first_guess.Tie as tie
+use Rattle.bar.specs.inner.Search.{shares-within}
+use Rattle.bar.proofs.first_guess.Statement.{statement}
+use Rattle.bar.proofs.first_guess.Tie as tie
 
 sub-last : tie.Need-sub-last
 sub-last c = search needs

@@ -10,9 +10,8 @@ use lib.Dec.{leb}
 use lib.ListN.{length, getD}
 use borrow.Author.Tests.{leb-true, leb-false}
 use Rattle.apportionment.specs.inner.Tests.{either-way}
-use Rattle.remainders.specs.inner.Precedence.{count-reached, count-passed-by}
-use Rattle.remainders.specs.inner.Bar.{reaching, falls, Bar, just-as-many}
-use Rattle.remainders.specs.declared.Range.{Range}
+use Rattle.bar.specs.inner.Reaching.{count-reached, count-passed-by, reaching, falls, Bar, just-as-many}
+use Rattle.bar.specs.declared.Range.{Range}
 
 -- ---- an end drawn in
 

@@ -1,4 +1,4 @@
--- `remainders::drawn_down` meets its contract. The loop's invariant: the end is drawn in as far as the states passed allow. The measure is
+-- `bar::drawn_down` meets its contract. The loop's invariant: the end is drawn in as far as the states passed allow. The measure is
 -- what is left of the list.
 -- Assumes nothing.
 use Rattle.apportionment.specs.inner.Lists.{count-none}
@@ -7,10 +7,10 @@ use Prim.Native.Nat.{_+_, _-_, _≤_}
 use native.Mathlib.Omega.{arith}
 use lib.ListN.{length}
 use borrow.Author.Needs.{needs}
-use Rattle.remainders.specs.inner.Precedence.{reaches}
-use Rattle.remainders.specs.inner.Search.{DrawnDown, drawn-down-on}
-use Rattle.remainders.proofs.drawn_down.Statement.{statement}
-use Rattle.remainders.proofs.drawn_down.Tie as tie
+use Rattle.bar.specs.inner.Reaching.{reaches}
+use Rattle.bar.specs.inner.Search.{DrawnDown, drawn-down-on}
+use Rattle.bar.proofs.drawn_down.Statement.{statement}
+use Rattle.bar.proofs.drawn_down.Tie as tie
 
 abbrev Inv-loop : tie.InvT-loop
 Inv-loop precedences low high best₀ j₀ best j = (j ≤ length precedences) × DrawnDown precedences low high j best

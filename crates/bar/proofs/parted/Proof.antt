@@ -1,10 +1,10 @@
--- `remainders::parted` meets its contract: the states above the middle number say which part holds the bar.
+-- `bar::parted` meets its contract: the states above the middle number say which part holds the bar.
 -- Assumes nothing.
 use native.Mathlib.Omega.{arith}
 use borrow.Author.Needs.{needs}
-use Rattle.remainders.specs.inner.Search.{middle-holds-bar}
-use Rattle.remainders.proofs.parted.Statement.{statement}
-use Rattle.remainders.proofs.parted.Tie as tie
+use Rattle.bar.specs.inner.Search.{middle-holds-bar}
+use Rattle.bar.proofs.parted.Statement.{statement}
+use Rattle.bar.proofs.parted.Tie as tie
 
 add-reaching : tie.Need-add-reaching
 add-reaching c = search needs
