@@ -66,10 +66,11 @@ pub examples-hold :
     × (nameOf example 4 ≡ bytesOf "E")
     × (readingOf [] ≡ refused lineIllFormed 1)
     × (readingOf zeroPopulation ≡ refused numberOutOfLimits 3)
-unfolding sameList within outside firstRefusal placeOf has before after allBetween ended lastByte withoutReturn lineOf restOf fieldOf fieldsAfter
-    isNumber valueFrom valueOf isName isMethodField methodText firstNamed methodNamed methodField houseField countField headFormed isHead
-    isUnknown methodIn headRefusal headRefused headRead headOf nameAt numberField numberAt pairFormed isPair isStateLine isClosingLine usedIn stateRefusal
-    closingRefusal noPopulations refused accepts endOf closingOf statesFrom statesOf linesOf readingOf linesAfter nameRefusalIn nameRefusalOf nameOf
+unfolding sameList within outside firstRefusal placeOf has before after allBetween ended lastByte withoutReturn lineOf restOf fieldOf
+    fieldsAfter isNumber valueFrom valueOf isName isMethodField methodText firstNamed methodNamed methodField houseField countField
+    headFormed isHead isUnknown methodIn headRefusal headRefused headRead headOf nameAt numberField numberAt pairFormed isPair
+    isStateLine isClosingLine usedIn stateRefusal closingRefusal noPopulations refused accepts endOf closingOf statesFrom statesOf
+    linesOf readingOf linesAfter nameRefusalIn nameRefusalOf nameOf
 examples-hold = (refl, refl, refl, refl)
 
 -- The names of the example's states.
