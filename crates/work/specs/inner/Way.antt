@@ -4,7 +4,7 @@
 use mathlib.Core.Path.{_≡_, refl, sym, _∙_, ap}
 use mathlib.Core.List.{List}
 use Prim.Native.Nat.{ℕ, suc, _+_, _-_, _<_, _≤_}
-use native.Mathlib.Nat.{le-antisymm, le-trans}
+use native.Mathlib.Nat.{le-antisymm}
 use native.Mathlib.Omega.{arith}
 use lib.Dec.{eqb, ltb}
 use lib.ListN.{length, getD, take}
@@ -16,16 +16,14 @@ use Rattle.apportionment.specs.Lists.{sum}
 use Rattle.apportionment.specs.inner.Tests.{either-way}
 use Rattle.apportionment.specs.inner.Lists.{entry-at-most-sum}
 use Rattle.apportionment.specs.Quantities.{distance}
-use Rattle.apportionment.specs.Leximin.{leximinFor, startSeats, startTotal, gap, totalAfter}
+use Rattle.apportionment.specs.Leximin.{leximinFor, startTotal, gap, totalAfter}
 use Rattle.claims.specs.inner.StartBounds.{gap-below-states}
-use Rattle.claims.specs.inner.SizeClaims.{problem-positive, sizeTest, oneEach}
-use Rattle.claims.specs.inner.DivisorSeats.{withdrawn-at-most}
-use Rattle.claims.specs.inner.LeximinSteps.{lexMoved, moved-leximin, states-at-most-passed}
+use Rattle.claims.specs.inner.SizeClaims.{problem-positive}
+use Rattle.claims.specs.inner.LeximinSteps.{states-at-most-passed}
 use Rattle.claims.specs.inner.Allotments.{Allotment}
 use Rattle.claims.specs.inner.LeastOfAll.{leximin-least-of-all}
 use Rattle.apportionment.specs.Allotment.{openRefusal}
 use Rattle.problem.specs.inner.Passed.{Openable, open-passed}
-use Rattle.leximin.specs.inner.Start.{start-within-house}
 use Rattle.departure.specs.inner.Answer.{InLimits}
 use Rattle.register.specs.Register.{readingOf}
 use Rattle.register.specs.Names.{rowsOf, nameInRow}
@@ -34,7 +32,8 @@ use Rattle.register.specs.inner.Rows.{nameLimit, name-limited}
 use Rattle.register.specs.declared.Reading.{Reading}
 use Rattle.placing.specs.Placing.{started, placingAt, openedOf, steppedOf, refusedWith, peopleOf}
 use Rattle.placing.specs.inner.Lists.{take-padded}
-use Rattle.placing.specs.inner.Walk.{start-is-first, step-before-house, step-at-house}
+use Rattle.placing.specs.inner.Genuine.{lex-within-house}
+use Rattle.placing.specs.inner.Walk.{own-people, start-is-first, step-before-house, step-at-house}
 use Rattle.placing.specs.declared.Placing.{Placing}
 use Rattle.placing.specs.declared.Placed.{Placed}
 use Rattle.showing.specs.Work.{seatsIn, movedAt}
@@ -83,18 +82,6 @@ module _ (ps : List ℕ) (H : ℕ) (opens : openRefusal ps H ≡ accepted) (m : 
       let positive = problem-positive (passed .problem) in
       leximin-least-of-all positive (totalAfter ps H m) (states-at-most-passed positive (passed .seatForEach) m few) .allotted
 
-  -- No state has more seats than the house: placing ends at the house, and withdrawing begins at nearest seats.
-  within-house : (i : ℕ) → getD seats i 0 ≤ H
-  unfolding totalAfter gap distance lexMoved
-  within-house i =
-      either-way (ltb (startTotal ps H) H)
-      (λ below.
-      let ends : totalAfter ps H m ≤ H = rw below (omega (arith, few, ltb-true (startTotal ps H) H below)) in
-      le-trans (entry-at-most-sum seats i) (rw (allotted .whole) ends))
-      (λ above.
-      rw (← moved-leximin (problem-positive (passed .problem)) (passed .seatForEach) m few, above)
-      (le-trans (withdrawn-at-most oneEach (sizeTest ps H) (length ps) (startSeats ps H) m i) (start-within-house (passed .problem) i)))
-
   state-in-limits : (i : ℕ) → i < length ps → InLimits (getD ps i 0) (getD seats i 0) (sum ps) H
   state-in-limits i below =
       let peopled = passed .problem .states .peopled i below in
@@ -105,14 +92,10 @@ module _ (ps : List ℕ) (H : ℕ) (opens : openRefusal ps H ≡ accepted) (m : 
         house-limited = passed .problem .houseWithin;
         some-people = peopled;
         people-within = entry-at-most-sum ps i;
-        seats-within = within-house i;
+        seats-within = lex-within-house (passed .problem) (passed .seatForEach) m few i;
       }
 
-  -- A placing's own populations and seats are those that it was made with.
-  own-people : peopleOf (placingAt ps H m) ≡ ps
-  unfolding placingAt peopleOf
-  own-people = take-padded ps
-
+  -- A placing's own seats are those that it was made with.
   own-seats : seatsIn (placingAt ps H m) ≡ seats
   unfolding placingAt seatsIn
   own-seats = rw (← allotted .states) (take-padded seats)
@@ -123,9 +106,9 @@ module _ (ps : List ℕ) (H : ℕ) (opens : openRefusal ps H ≡ accepted) (m : 
   way-showable rows named =
       record {
         few-states = passed .problem .states .statesWithin;
-        counted = ap length own-people;
+        counted = ap length (own-people ps H m);
         short-names = named;
-        in-limits = rw (own-people, own-seats) (record { paired = allotted .states; each = state-in-limits });
+        in-limits = rw (own-people ps H m, own-seats) (record { paired = allotted .states; each = state-in-limits });
         seated = rw own-seats (allotted .each);
         unfilled = λ short i below. rw own-seats (omega (arith, entry-at-most-sum seats i, allotted .whole));
         house-limited = passed .problem .houseWithin;
