@@ -30,7 +30,8 @@ returns c =
     let word = method .before in
     let known = word .before .before .before in
     let start = known .before .before .before in
-    five-at-once (start .args .ended) (word .same .result) (method .is-method-field .result) (house .is-number .result) (c .is-number2 .result)
+    five-at-once (start .args .ended) (word .same .result) (method .is-method-field .result) (house .is-number .result)
+    (c .is-number2 .result)
     ∙ rw (word .same .ensures, method .is-method-field .ensures, house .is-number .ensures, c .is-number2 .ensures)
 
 pub is-head-spec : {M : Type 1} → statement M
