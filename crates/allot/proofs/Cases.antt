@@ -29,7 +29,6 @@ signposts-left Remainders ps H l r e = absurd (miss (0 ∷ 1 ∷ 2 ∷ 3 ∷ 4 �
 
 -- Leximin gives every state a seat.
 pub every : (m : Method) → m ≡ Leximin → seatsEveryState m ≡ true
-unfolding seatsEveryState
 every m e = rw e
 
 pub leximin-filled : (m : Method) (ps : List ℕ) (H : ℕ) {xs : List ℕ} {made : ℕ} → m ≡ Leximin → xs ≡ leximinFor ps H H → made ≡ gap ps H

@@ -40,7 +40,7 @@ unfoldable pub listMisfits : (room : ℕ) (ps : List ℕ) → Bool
 listMisfits room ps = not (eqb room (length ps))
 
 -- The methods that give every state a seat.
-unfoldable pub seatsEveryState : Method → Bool
+abbrev pub seatsEveryState : Method → Bool
 seatsEveryState Leximin = true
 seatsEveryState Adams = true
 seatsEveryState Dean = true

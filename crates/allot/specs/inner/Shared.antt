@@ -11,7 +11,7 @@ use Rattle.apportionment.specs.inner.Lists.{length-listOf}
 use Rattle.apportionment.specs.Leximin.{leximinFor, gap}
 use Rattle.apportionment.specs.Divisor.{weightOf, divisorSeats}
 use Rattle.apportionment.specs.Remainders.{remainderSeats, remainderSeatsAt}
-use Rattle.apportionment.specs.Allotment.{seatsEveryState, seatsOf}
+use Rattle.apportionment.specs.Allotment.{seatsOf}
 use Rattle.apportionment.specs.declared.Method.{Method}
 use Rattle.apportionment.specs.declared.Method.the-variants.{Leximin, Adams, Dean, Hill, Webster, Jefferson, Remainders}
 use Rattle.claims.specs.inner.DivisorRounding.{signposts-increase, weight-positive}
@@ -53,7 +53,7 @@ remainders-shared ps H ok =
     record { states = length-listOf (remainderSeatsAt ps H) (length ps); whole = seats-sum-to-house ok }
 
 pub allotment-shared : (m : Method) (H : ℕ) (ps : List ℕ) (room : ℕ) → Allottable m H ps room → Shared (length ps) H (seatsOf m ps H)
-unfolding seatsOf seatsEveryState
+unfolding seatsOf
 allotment-shared Leximin H ps room ok = leximin-shared ps H (ok .problem) (ok .seatForEach refl)
 allotment-shared Adams H ps room ok = divisor-shared Adams ps H (ok .problem)
 allotment-shared Dean H ps room ok = divisor-shared Dean ps H (ok .problem)

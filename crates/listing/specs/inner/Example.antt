@@ -14,7 +14,7 @@ use Rattle.apportionment.specs.Quantities.{shownText, departureText, markOf, ma
 use Rattle.apportionment.specs.Leximin.{sizesOf, insert, largestFirst, listLess, moreAtFirst, sizeList, chosenBefore, withFirst}
 use Rattle.apportionment.specs.Leximin.{allotments, firstOf, firstOfAll, leximinFor}
 use Rattle.apportionment.specs.Checks.{within, outside, firstRefusal}
-use Rattle.apportionment.specs.Allotment.{statesOutside, houseOutside, hasZero, sumOutside, listMisfits, seatsEveryState, seatsTooFew}
+use Rattle.apportionment.specs.Allotment.{statesOutside, houseOutside, hasZero, sumOutside, listMisfits, seatsTooFew}
 use Rattle.apportionment.specs.Allotment.{problemChecks, allotRefusal, seatsOf}
 use Rattle.register.specs.Register.{readingOf}
 use Rattle.register.specs.Names.{nameOf}
@@ -40,7 +40,7 @@ exampleListing =
 listing-laid-out : listingIn exampleReading exampleName (seatsIn exampleReading) ≡ exampleListing
 unfolding listingIn numbersText headLine stateLines stateLine departureText totalLine seatsIn methodText decimal decimalWith sum less atMost
     distance sizeOf isBelow nearestWhole hundredthsOf shownOf hundredthsText shownText markOf markFor markText sizesOf insert largestFirst
-    listLess moreAtFirst sizeList chosenBefore withFirst allotments firstOf firstOfAll leximinFor seatsEveryState seatsOf
+    listLess moreAtFirst sizeList chosenBefore withFirst allotments firstOf firstOfAll leximinFor seatsOf
 listing-laid-out = refl
 
 listing-is : listingOf example ≡ exampleListing
@@ -55,7 +55,7 @@ printed-by-parts : (r : Reading) (text : List ℕ) → r ≡ exampleReading → 
     → let listed = listedIn r text (length text) in
     cond (eqb (listed .refusal) accepted) text (refusalLine (listed .refusal) (listed .line)) ≡ exampleListing
 unfolding listedIn fittedOf refused allotRefusalIn sum within outside firstRefusal statesOutside houseOutside hasZero sumOutside listMisfits
-    seatsEveryState seatsTooFew problemChecks allotRefusal
+    seatsTooFew problemChecks allotRefusal
 printed-by-parts r text reading listing = rw (reading, listing)
 
 pub example-printed : printedOf example ≡ exampleListing

@@ -110,7 +110,7 @@ allot-passed m H ps room e =
     }
 
 pub open-passed : (ps : List ℕ) (H : ℕ) → openRefusal ps H ≡ accepted → Openable ps H
-unfolding openRefusal seatsEveryState
+unfolding openRefusal
 open-passed ps H e =
     let both = both-pass ps H _ e in
     let seats = check-passed (seatsTooFew Leximin ps H) _ _ (omega arith) (both .1) in
