@@ -57,7 +57,7 @@ pub record Filled (ps : List ℕ) (H : ℕ) (precedences seats : List ℕ) (r : 
   pub givenIs : r .given ≡ sum (wholeParts ps H)
   pub spans : Spans (precedenceAt ps H) (length ps) (r .least) (r .greatest)
 
--- Standings and seats of as many states, with room for one more seat each.
+-- Precedences and seats of as many states, with room for one more seat each.
 pub record HasRoom (xs seats : List ℕ) : Type 0 where
   pub sameLength : length seats ≡ length xs
   pub seatsFit : (i : ℕ) → i < length xs → getD seats i 0 + 1 < 2 ^ 64
