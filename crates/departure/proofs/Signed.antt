@@ -2,7 +2,7 @@
 -- `difference` and `with_sign` cite these laws.
 -- Assumes nothing.
 use mathlib.Core.Path.{_≡_, refl}
-use mathlib.Core.Bool.{Bool, true, false}
+use mathlib.Core.Bool.{true, false}
 use Prim.Native.Nat.{ℕ, _<_, _^_}
 use native.Mathlib.Nat.{not-suc-le-zero}
 use native.Mathlib.Omega.{arith}
@@ -13,6 +13,7 @@ use mir.Syntax.{w64}
 use mir.Val.{SFits, toZ, ofZ}
 use mir.ValLaws.{toZ-ofZ, toZ-pos}
 use borrow.Author.Tests.{ltb-true, ltb-false}
+use Rattle.apportionment.specs.inner.Tests.{either-way}
 use Rattle.wide.proofs.Signed.{word, word-test}
 use Rattle.departure.specs.inner.Exact.{minus-below, minus-above, signed}
 
@@ -20,11 +21,10 @@ use Rattle.departure.specs.inner.Exact.{minus-below, minus-above, signed
 
 -- Of two numbers below 2^63 it fits.
 minus-fits : (x y : ℕ) → x < 2 ^ 63 → y < 2 ^ 63 → SFits w64 (pos x -ℤ pos y)
-minus-fits x y x-fits y-fits = by (ltb x y) refl
-  where
-    by : (t : Bool) → ltb x y ≡ t → SFits w64 (pos x -ℤ pos y)
-    by true e = rw (minus-below x y (ltb-true x y e)) (record { sfits = omega arith })
-    by false e = rw (minus-above x y (ltb-false x y e)) (record { sfits = omega arith })
+minus-fits x y x-fits y-fits =
+    either-way (ltb x y)
+    (λ e. rw (minus-below x y (ltb-true x y e)) (record { sfits = omega arith }))
+    (λ e. rw (minus-above x y (ltb-false x y e)) (record { sfits = omega arith }))
 
 -- The same of two words that are read as signed ones.
 pub words-minus-fits : (x y : ℕ) → x < 2 ^ 63 → y < 2 ^ 63 → SFits w64 (toZ w64 x -ℤ toZ w64 y)

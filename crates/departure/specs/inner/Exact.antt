@@ -1,14 +1,15 @@
 -- An exact departure with its sign: its size and how it is shown, and the laws that both are document 01's where it is the
 -- departure of a state. The proofs of the code go by these laws.
 -- Assumes nothing.
-use mathlib.Core.Path.{_≡_, refl, _∙_, ap}
-use mathlib.Core.Bool.{Bool, true, false, cond}
-use Prim.Native.Nat.{ℕ, zero, suc, _+_, _-_, _*_, _<_, _≤_}
+use mathlib.Core.Path.{_≡_, _∙_, ap}
+use mathlib.Core.Bool.{cond}
+use Prim.Native.Nat.{ℕ, zero, suc, _-_, _*_, _<_, _≤_}
 use native.Mathlib.Nat.{add-zero, sub-zero, not-suc-le-zero}
 use native.Mathlib.Omega.{arith}
 use lib.Dec.{ltb}
 use lib.IntN.{ℤ, pos, negsuc, negℤ, natAbs, _-ℤ_}
 use borrow.Author.Tests.{ltb-true, ltb-false, lt-ltb, le-ltb}
+use Rattle.apportionment.specs.inner.Tests.{either-way}
 use Rattle.apportionment.specs.Limits.{houseLimit, sumLimit}
 use Rattle.apportionment.specs.Quantities.{Fraction, distance, sizeOf, isBelow, hundredthsOf, shownOf}
 use Rattle.departure.specs.declared.Departure.{Departure}
@@ -44,20 +45,18 @@ minus-above x (suc y) h = simp (le-ltb _ _ h)
 -- Without its sign it is how far the two are apart ..
 minus-distance : (x y : ℕ) → natAbs (pos x -ℤ pos y) ≡ distance x y
 unfolding distance
-minus-distance x y = by (ltb x y) refl
-  where
-    by : (t : Bool) → ltb x y ≡ t → natAbs (pos x -ℤ pos y) ≡ (x - y) + (y - x)
-    by true e = let h : x < y = ltb-true x y e in simp (minus-below x y h) (omega arith)
-    by false e = let h : y ≤ x = ltb-false x y e in simp (minus-above x y h) (omega arith)
+minus-distance x y =
+    either-way (ltb x y)
+    (λ e. let h : x < y = ltb-true x y e in simp (minus-below x y h) (omega arith))
+    (λ e. let h : y ≤ x = ltb-false x y e in simp (minus-above x y h) (omega arith))
 
 -- .. and its sign is that of the order.
 minus-sign : (x y m : ℕ) → signed (pos x -ℤ pos y) m ≡ cond (ltb x y) (negℤ (pos m)) (pos m)
 unfolding signed
-minus-sign x y m = by (ltb x y) refl
-  where
-    by : (t : Bool) → ltb x y ≡ t → signed (pos x -ℤ pos y) m ≡ cond t (negℤ (pos m)) (pos m)
-    by true e = simp (minus-below x y (ltb-true x y e))
-    by false e = simp (minus-above x y (ltb-false x y e))
+minus-sign x y m =
+    either-way (ltb x y)
+    (λ e. rw e (simp (minus-below x y (ltb-true x y e))))
+    (λ e. rw e (simp (minus-above x y (ltb-false x y e))))
 
 -- ---- the departure of a state
 

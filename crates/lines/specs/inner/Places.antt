@@ -67,17 +67,18 @@ pub record EndOf (s t : List ℕ) : Type 0 where
   pub stands : t ≡ drop (length s - length t) s
 
 pub drop-is-end : (k : ℕ) (s : List ℕ) → EndOf s (drop k s)
-drop-is-end k s = record { shorter = rw (length-drop k s) (omega arith); stands = rw (length-drop k s) (by-test (leb k (length s)) refl) }
+drop-is-end k s = record { shorter = rw (length-drop k s) (omega arith); stands = rw (length-drop k s) end }
   where
-    by-test : (t : Bool) → leb k (length s) ≡ t → drop k s ≡ drop (length s - (length s - k)) s
-    by-test true few =
-        let inside : k ≤ length s = leb-true k (length s) few in
-        let same : k ≡ length s - (length s - k) = omega arith in
-        ap (λ (i : ℕ). drop i s) same
-    by-test false many =
+    end : drop k s ≡ drop (length s - (length s - k)) s
+    end =
+        either-way (leb k (length s))
+        (λ few.
+        let same : k ≡ length s - (length s - k) = omega (arith, leb-true k (length s) few) in
+        ap (λ (i : ℕ). drop i s) same)
+        (λ many.
         let past : length s ≤ k = omega (arith, leb-false k (length s) many) in
         let all : length s ≤ length s - (length s - k) = omega arith in
-        drop-of-length-le s past ∙ sym (drop-of-length-le s all)
+        drop-of-length-le s past ∙ sym (drop-of-length-le s all))
 
 pub end-of-end : {s t u : List ℕ} → EndOf s t → EndOf t u → EndOf s u
 end-of-end {s} {t} {u} e f =

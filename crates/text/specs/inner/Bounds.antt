@@ -1,7 +1,6 @@
 -- How long each piece of text can be: by this a whole listing, and a block of the work, fits the page in which it is written.
 -- Assumes nothing.
 use mathlib.Core.Path.{_≡_, refl}
-use mathlib.Core.Bool.{Bool, true, false}
 use mathlib.Core.List.{List, _++_}
 use Prim.Native.Nat.{ℕ, zero, suc, _+_, _*_, _^_, _<_, _≤_, _/_}
 use native.Mathlib.Nat.{suc-mul}
@@ -9,6 +8,7 @@ use native.Mathlib.Omega.{arith}
 use borrow.Author.Tests.{leb-true, ltb-true, ltb-false}
 use lib.Dec.{leb, ltb}
 use lib.ListN.{length, length-append}
+use Rattle.apportionment.specs.inner.Tests.{either-way}
 use Rattle.apportionment.specs.Limits.{stateLimit, houseLimit, sumLimit}
 use Rattle.apportionment.specs.Text.{decimal}
 use Rattle.apportionment.specs.Quantities.{hundredthsText, markText}
@@ -23,13 +23,11 @@ use Rattle.text.specs.inner.Decimal.{decimal-one, decimal-more}
 -- A number below 10 ^ (k + 1) has at most k + 1 digits.
 pub decimal-length : (k n : ℕ) → n < 10 ^ suc k → length (decimal n) ≤ suc k
 decimal-length zero n bound = rw (decimal-one n (omega arith)) (omega arith)
-decimal-length (suc k) n bound = by-size (ltb n 10) refl (λ large. decimal-length k (n / 10) (omega arith))
-  where
-    by-size : (small : Bool) → ltb n 10 ≡ small → (10 ≤ n → length (decimal (n / 10)) ≤ suc k) → length (decimal n) ≤ suc (suc k)
-    by-size true e tens = rw (decimal-one n (ltb-true n 10 e)) (omega arith)
-    by-size false e tens =
-        let large : 10 ≤ n = ltb-false n 10 e in
-        rw (decimal-more n large, length-append) (omega (arith, tens large))
+decimal-length (suc k) n bound =
+    either-way (ltb n 10)
+    (λ e. rw (decimal-one n (ltb-true n 10 e)) (omega arith))
+    (λ e.
+    rw (decimal-more n (ltb-false n 10 e), length-append) (omega (arith, decimal-length k (n / 10) (omega arith))))
 
 -- Every u64 has at most 20 digits.
 pub decimal-of-u64 : (n : ℕ) → n < 2 ^ 64 → length (decimal n) ≤ 20

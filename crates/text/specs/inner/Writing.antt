@@ -1,7 +1,7 @@
 -- Laws of what Writing.antt defines, which proofs cite.
 -- Assumes nothing.
 use mathlib.Core.Path.{_≡_, refl, sym, ap, _∙_}
-use mathlib.Core.Bool.{Bool, true, false, cond}
+use mathlib.Core.Bool.{cond}
 use mathlib.Core.List.{List, [], _∷_, _++_}
 use Prim.Native.Nat.{ℕ, suc, _+_, _-_, _<_, _≤_, min}
 use native.Mathlib.Nat.{add-zero, zero-add}
@@ -11,6 +11,7 @@ use borrow.Author.Tests.{leb-true, leb-false, le-leb}
 use lib.Dec.{leb}
 use lib.ListN.{length, take, drop, set, getD, length-append, take-append-drop}
 use lib.Seq.{sets, length-sets, sets-eq, set-out, take-at, take-suc, length-take-le}
+use Rattle.apportionment.specs.inner.Tests.{either-way}
 use Rattle.text.specs.Writing.{laid, placeAfter, Wrote}
 
 -- ---- definitions
@@ -38,14 +39,12 @@ laid-append (b ∷ s) t buffer at =
 -- The second of two texts is laid where the place after the first says: at their seam or, if the first did not fit, nowhere.
 laid-next : (t buffer : List ℕ) (at size : ℕ) → laid buffer (placeAfter (length buffer) at size) t ≡ laid buffer (at + size) t
 unfolding placeAfter
-laid-next t buffer at size = by-room (leb (at + size) (length buffer)) refl
-  where
-    by-room : (fits : Bool) → leb (at + size) (length buffer) ≡ fits
-        → laid buffer (placeAfter (length buffer) at size) t ≡ laid buffer (at + size) t
-    by-room true e = ap (λ (k : ℕ). laid buffer k t) (omega (arith, leb-true (at + size) (length buffer) e))
-    by-room false e =
-        let past : length buffer < at + size = leb-false (at + size) (length buffer) e in
-        laid-past t buffer (min (at + size) (length buffer + 1)) (omega arith) ∙ sym (laid-past t buffer (at + size) (omega arith))
+laid-next t buffer at size =
+    either-way (leb (at + size) (length buffer))
+    (λ e. ap (λ (k : ℕ). laid buffer k t) (omega (arith, leb-true (at + size) (length buffer) e)))
+    (λ e.
+    let past : length buffer < at + size = leb-false (at + size) (length buffer) e in
+    laid-past t buffer (min (at + size) (length buffer + 1)) (omega arith) ∙ sym (laid-past t buffer (at + size) (omega arith)))
 
 -- The place after two texts.
 place-append : (room at m n : ℕ) → placeAfter room (placeAfter room at m) n ≡ placeAfter room at (m + n)

@@ -1,11 +1,12 @@
 -- `departure::Departure::at_most` is right because one size is at most another exactly if the other is not less.
 -- Assumes nothing.
-use mathlib.Core.Path.{_≡_, refl, sym}
-use mathlib.Core.Bool.{Bool, true, false, not}
+use mathlib.Core.Path.{_≡_, sym}
+use mathlib.Core.Bool.{not}
 use Prim.Native.Nat.{ℕ, _*_}
 use lib.Dec.{leb, ltb}
 use borrow.Author.Needs.{needs}
 use borrow.Author.Tests.{ltb-true, ltb-false, le-leb, lt-leb}
+use Rattle.apportionment.specs.inner.Tests.{either-way}
 use Rattle.apportionment.specs.Quantities.{Fraction, atMost, less}
 use Rattle.departure.specs.inner.Exact.{size}
 use Rattle.wide.proofs.Signed.{read-back}
@@ -13,11 +14,8 @@ use Rattle.departure.proofs.Departure.at_most.Statement.{statement}
 use Rattle.departure.proofs.Departure.at_most.Tie as tie
 
 not-ltb : (x y : ℕ) → not (ltb x y) ≡ leb y x
-not-ltb x y = by (ltb x y) refl
-  where
-    by : (t : Bool) → ltb x y ≡ t → not t ≡ leb y x
-    by true e = sym (lt-leb y x (ltb-true x y e))
-    by false e = sym (le-leb y x (ltb-false x y e))
+not-ltb x y =
+    either-way (ltb x y) (λ e. rw e (sym (lt-leb y x (ltb-true x y e)))) (λ e. rw e (sym (le-leb y x (ltb-false x y e))))
 
 not-less : (s t : Fraction) → not (less t s) ≡ atMost s t
 unfolding less atMost
