@@ -3,7 +3,7 @@
 use mathlib.Core.Bool.{Bool, cond}
 use mathlib.Core.List.{List, _++_}
 use Prim.Native.Nat.{ℕ, _+_, _-_, _*_, _/_, _%_}
-use lib.Dec.{ltb, leb}
+use lib.Dec.{ltb, leb, eqb}
 use lib.IntN.{ℤ, pos, negsuc, negℤ}
 use Rattle.apportionment.specs.Text.{bytesOf, decimal, digit}
 use Rattle.apportionment.specs.declared.Mark.{Mark}
@@ -62,6 +62,10 @@ unfoldable pub shownText : ℤ → List ℕ
 shownText (pos h) = hundredthsText h
 shownText (negsuc h) = bytesOf "-" ++ hundredthsText (h + 1)
 
+-- The bytes of a state's departure: the shown one, or `none` with 0 seats.
+unfoldable pub departureText : (p a P H : ℕ) → List ℕ
+departureText p a P H = cond (eqb a 0) (bytesOf "none") (shownText (shownOf p a P H))
+
 -- ---- marks
 
 abbrev pub tenPercent : Fraction
@@ -73,6 +77,10 @@ fifteenPercent = record { over = 15; under = 100 }
 -- The mark of an exact size: in up to 10 per cent, high up to 15, over beyond.
 unfoldable pub markOf : Fraction → Mark
 markOf s = cond (atMost s tenPercent) In (cond (atMost s fifteenPercent) High Over)
+
+-- A state's mark: that of its exact size, or `none` with 0 seats.
+unfoldable pub markFor : (p a P H : ℕ) → Mark
+markFor p a P H = cond (eqb a 0) None (markOf (sizeOf p a P H))
 
 -- The word of a mark.
 unfoldable pub markText : Mark → List ℕ

@@ -14,8 +14,8 @@ wholePart ps H i = getD ps i 0 * H / sum ps
 unfoldable pub remainder : (ps : List ℕ) (H i : ℕ) → ℕ
 remainder ps H i = getD ps i 0 * H % sum ps
 
--- State j is served before state i where the seats that are left are given: its remainder is larger; of equal remainders, its population
--- is larger; of equal populations too, it is earlier in register order.
+-- State j is served before state i with a seat that is left: its remainder is larger; of equal remainders, its population is larger; of
+-- equal populations too, it is earlier in register order.
 unfoldable pub servedBefore : (ps : List ℕ) (H i j : ℕ) → Bool
 servedBefore ps H i j =
     cond (ltb (remainder ps H i) (remainder ps H j)) true

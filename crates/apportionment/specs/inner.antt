@@ -1,7 +1,10 @@
--- Laws of the words about lists, filling and checks, the checked problem that the layers above start from, and the bound of its products.
+-- Laws of the words about lists, filling, methods, quantities and checks, the checked problem that the layers above start from, and the
+-- bound of its products.
 pub mod Tests
 pub mod Lists
 pub mod Filling
 pub mod Checks
+pub mod Methods
+pub mod Quantities
 pub mod Problem
 pub mod MachineWords

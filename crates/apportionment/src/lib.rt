@@ -1,6 +1,7 @@
 // The ground layer: the words of the trade (methods, marks, limits) and, in specs/, what each of them means.
 // Every other crate states its contracts by the definitions of this crate's specs/.
 
+pub mod methods;
 pub mod refusals;
 
 ghost use mathlib.Core.Path.{_≡_};

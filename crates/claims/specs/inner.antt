@@ -4,7 +4,6 @@ pub mod Order
 pub mod StandingMoves
 pub mod StandingOrder
 pub mod Fractions
-pub mod MachineWords
 pub mod Standing
 pub mod Tournament
 pub mod TournamentReplay

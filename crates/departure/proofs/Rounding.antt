@@ -8,7 +8,7 @@ use native.Mathlib.Nat.{div-le-of-le-mul, le-of-lt, mul-le-mul-right}
 use native.Mathlib.Omega.{arith}
 use Rattle.apportionment.specs.Limits.{houseLimit}
 use Rattle.apportionment.specs.Quantities.{Fraction, hundredthsOf, nearestWhole}
-use Rattle.departure.specs.inner.Edges.{at-most-wholes}
+use Rattle.apportionment.specs.inner.Quantities.{at-most-wholes}
 use Rattle.departure.specs.inner.Exact.{Moderate}
 
 -- A whole part w with a remainder r, and the scaled remainder's quotient q with its rest s, lose nothing.
@@ -66,6 +66,4 @@ module _ (scale over under : ℕ) (positive : 0 < under) where
 
 -- The hundredths of a moderate size are far below 2^63.
 pub moderate-fits : (s : Fraction) → Moderate s → hundredthsOf s < 2 ^ 63
-unfolding hundredthsOf
-moderate-fits s moderate =
-    omega (arith, at-most-wholes houseLimit (s .over) (s .under) (moderate .positive) (moderate .low))
+moderate-fits s moderate = omega (arith, at-most-wholes houseLimit s (moderate .positive) (moderate .low))

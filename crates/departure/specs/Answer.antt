@@ -11,7 +11,7 @@ use lib.IntN.{ℤ}
 use Rattle.apportionment.specs.Limits.{houseLimit, sumLimit}
 use Rattle.apportionment.specs.Refusals.{accepted, departureOutOfLimits}
 use Rattle.apportionment.specs.Checks.{outside, firstRefusal}
-use Rattle.apportionment.specs.Quantities.{markOf, shownOf, sizeOf}
+use Rattle.apportionment.specs.Quantities.{shownOf, markFor}
 use Rattle.apportionment.specs.declared.Mark.{Mark}
 use Rattle.apportionment.specs.declared.Mark.the-variants.{None}
 use Rattle.departure.specs.declared.Answer.{Answer}
@@ -40,7 +40,7 @@ departureShown p a P H =
 -- The mark: none at all where refused, and the mark `none` with 0 seats.
 unfoldable pub departureMark : (p a P H : ℕ) → Option Mark
 departureMark p a P H =
-    cond (eqb (departureRefusal p a P H) accepted) (some (cond (eqb a 0) None (markOf (sizeOf p a P H)))) none
+    cond (eqb (departureRefusal p a P H) accepted) (some (markFor p a P H)) none
 
 -- ---- an answer in document 01's terms
 

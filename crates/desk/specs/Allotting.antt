@@ -5,9 +5,9 @@ use mathlib.Core.List.{List}
 use Prim.Native.Nat.{ℕ}
 use lib.Dec.{ltb}
 use Rattle.apportionment.specs.Refusals.{methodUnknown}
+use Rattle.apportionment.specs.Methods.{lastMethod, methodAt}
 use Rattle.apportionment.specs.Allotment.{allotRefusal, seatsAfter, stepsAfter}
 use Rattle.desk.specs.declared.DeskAllotted.{DeskAllotted}
-use Rattle.desk.specs.Numbers.{lastMethod, methodAt}
 
 -- What is handed back.
 unfoldable pub allottedBy : (number H : ℕ) (ps : List ℕ) (room : ℕ) → DeskAllotted

@@ -3,6 +3,7 @@
 use mathlib.Core.Option.{Option, Option·getD}
 use Prim.Native.Nat.{ℕ}
 use lib.IntN.{ℤ, pos}
+use Rattle.apportionment.specs.Methods.{methodNumber}
 use Rattle.apportionment.specs.declared.Mark.{Mark}
 use Rattle.apportionment.specs.declared.Mark.the-variants.{None}
 use Rattle.departure.specs.Answer.{departureRefusal, departureShown, departureMark}
@@ -15,7 +16,7 @@ use Rattle.desk.specs.declared.DeskPlacing.{DeskPlacing}
 use Rattle.desk.specs.declared.DeskPlaced.{DeskPlaced}
 use Rattle.desk.specs.declared.DeskShown.{DeskShown}
 use Rattle.desk.specs.declared.DeskWritten.{DeskWritten}
-use Rattle.desk.specs.Numbers.{methodNumber, markNumber}
+use Rattle.desk.specs.Numbers.{markNumber}
 
 unfoldable pub exportedReading : Reading → DeskReading
 exportedReading r =
@@ -29,7 +30,7 @@ exportedReading r =
       populations = r .populations;
     }
 
-unfoldable pub exportedPlacing : Placing → DeskPlacing
+abbrev pub exportedPlacing : Placing → DeskPlacing
 exportedPlacing p =
     record {
       states = p .states;
@@ -41,7 +42,7 @@ exportedPlacing p =
     }
 
 -- The placing that a caller hands in.
-unfoldable pub innerPlacing : DeskPlacing → Placing
+abbrev pub innerPlacing : DeskPlacing → Placing
 innerPlacing p =
     record {
       states = p .states;
@@ -64,5 +65,5 @@ unfoldable pub exportedDeparture : (p a P H : ℕ) → DeskShown
 exportedDeparture p a P H =
     exportedShown (departureRefusal p a P H) (departureShown p a P H) (departureMark p a P H)
 
-unfoldable pub exportedListed : Listed → DeskWritten
+abbrev pub exportedListed : Listed → DeskWritten
 exportedListed l = record { refusal = l .refusal; line = l .line; length = l .size }

@@ -1,5 +1,4 @@
 -- That what the C interface hands back is what the operations do.
-pub mod Numbers
 pub mod Exported
 pub mod Allotting
 pub mod Part

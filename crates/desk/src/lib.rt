@@ -2,8 +2,8 @@
 // a number here, and the part of a register that holds a name is its start and length.
 use allot::allot;
 use apportionment::Mark;
-use apportionment::Method;
 use apportionment::STATE_LIMIT;
+use apportionment::methods;
 use apportionment::refusals;
 use departure::Answer;
 use departure::departure_of;
@@ -22,15 +22,12 @@ ghost use Rattle.apportionment.specs.Refusals.{accepted};
 ghost use Rattle.listing.specs.Listing.{listedOf, bufferAfter};
 ghost use Rattle.placing.specs.Placing.{openedOf, steppedOf};
 ghost use Rattle.register.specs.Register.{readingOf};
-ghost use Rattle.desk.specs.Numbers.{methodNumber, methodAt, markNumber};
+ghost use Rattle.desk.specs.Numbers.{markNumber};
 ghost use Rattle.desk.specs.Exported.{exportedReading, exportedPlacing, innerPlacing, exportedPlaced, exportedListed};
 ghost use Rattle.desk.specs.Exported.{exportedShown, exportedDeparture};
 ghost use Rattle.desk.specs.inner.Exported.{exportedAnswer};
 ghost use Rattle.desk.specs.Allotting.{allottedBy, seatsBy};
 ghost use Rattle.desk.specs.Part.{partOf};
-
-// The number of the last method.
-const LAST_METHOD: u64 = 6;
 
 // The number of the mark of a state without seats.
 const MARK_NONE: u64 = 3;
@@ -90,46 +87,6 @@ pub struct DeskPart {
     pub length: u64,
 }
 
-// The number of a method, in the order in which document 01 names them.
-fn method_number(method: Method) -> u64
-    ensures { λ r. ⌜ r ≡ methodNumber method ⌝ }
-{
-    match method {
-        Method::Leximin => 0,
-        Method::Adams => 1,
-        Method::Dean => 2,
-        Method::Hill => 3,
-        Method::Webster => 4,
-        Method::Jefferson => 5,
-        Method::Remainders => 6,
-    }
-}
-
-// The method with a number; the last one for any number past it.
-fn method_at(number: u64) -> Method
-    ensures { λ r. ⌜ r ≡ methodAt number ⌝ }
-{
-    if number == 0 {
-        return Method::Leximin;
-    }
-    if number == 1 {
-        return Method::Adams;
-    }
-    if number == 2 {
-        return Method::Dean;
-    }
-    if number == 3 {
-        return Method::Hill;
-    }
-    if number == 4 {
-        return Method::Webster;
-    }
-    if number == 5 {
-        return Method::Jefferson;
-    }
-    Method::Remainders
-}
-
 // The number of a mark.
 fn mark_number(mark: Mark) -> u64
     ensures { λ r. ⌜ r ≡ markNumber mark ⌝ }
@@ -146,7 +103,7 @@ fn exported_reading(reading: Reading) -> DeskReading
     ensures { λ r. ⌜ r ≡ exportedReading reading ⌝ }
 {
     let named = reading.method;
-    let method = method_number(named);
+    let method = methods::number(named);
     let populations = reading.populations;
     DeskReading {
         refusal: reading.refusal,
@@ -259,13 +216,13 @@ pub extern "C" fn desk_allot(
     ensures { λ r. ⌜ r ≡ allottedBy method house (now (populations .entry)) (length (now (seats .entry))) ⌝ }
     ensures { λ _. ⌜ now (seats .exit) ≡ seatsBy method house (now (populations .entry)) (now (seats .entry)) ⌝ }
 {
-    if LAST_METHOD < method {
+    if methods::LAST < method {
         return DeskAllotted {
             refusal: refusals::METHOD_UNKNOWN,
             steps: 0,
         };
     }
-    let made = allot(method_at(method), house, populations, seats);
+    let made = allot(methods::at(method), house, populations, seats);
     DeskAllotted {
         refusal: made.refusal,
         steps: made.steps,

@@ -6,9 +6,9 @@ use Prim.Native.Nat.{ℕ, _+_, _-_, _*_}
 use lib.Dec.{eqb}
 use lib.ListN.{length, getD, take}
 use Rattle.apportionment.specs.Lists.{sameList}
-use Rattle.apportionment.specs.Methods.{methodText}
+use Rattle.apportionment.specs.Methods.{methods, methodText}
 use Rattle.apportionment.specs.Checks.{within}
-use Rattle.apportionment.specs.declared.Method.the-variants.{Leximin, Adams, Dean, Hill, Webster, Jefferson, Remainders}
+use Rattle.apportionment.specs.declared.Method.{Method}
 use Rattle.fields.specs.declared.Named.{Named}
 use Rattle.fields.specs.declared.Named.the-variants.{Known, Unknown}
 use Rattle.fields.specs.Parts.{has, before, after, allBetween}
@@ -94,13 +94,11 @@ isName f =
 unfoldable pub isMethodField : List ℕ → Bool
 isMethodField f = cond (within wordLimit (length f)) (allBetween 33 126 f) false
 
+-- The first of some methods whose word is the field.
+unfoldable pub firstNamed : List ℕ → List Method → Named
+firstNamed f [] = Unknown
+firstNamed f (m ∷ ms) = cond (sameList f (methodText m)) (Known m) (firstNamed f ms)
+
 -- The method that a field names.
 unfoldable pub methodNamed : List ℕ → Named
-methodNamed f =
-    cond (sameList f (methodText Leximin)) (Known Leximin)
-    (cond (sameList f (methodText Adams)) (Known Adams)
-    (cond (sameList f (methodText Dean)) (Known Dean)
-    (cond (sameList f (methodText Hill)) (Known Hill)
-    (cond (sameList f (methodText Webster)) (Known Webster)
-    (cond (sameList f (methodText Jefferson)) (Known Jefferson)
-    (cond (sameList f (methodText Remainders)) (Known Remainders) Unknown))))))
+methodNamed f = firstNamed f methods

@@ -2,7 +2,7 @@
 use crate::Named;
 use crate::parts::all_between;
 use crate::parts::same;
-use apportionment::Method;
+use apportionment::methods;
 ghost use mathlib.Core.Path.{_≡_};
 ghost use Rattle.fields.specs.Parts.{allBetween};
 ghost use Rattle.fields.specs.Grammar.{isName, isMethodField, methodNamed};
@@ -48,26 +48,14 @@ pub fn is_method_field(f: &[u8]) -> bool
 pub fn method_named(f: &[u8]) -> Named
     ensures { λ r. ⌜ r ≡ methodNamed (now (f .entry)) ⌝ }
 {
-    if same(f, b"leximin") {
-        return Named::Known(Method::Leximin);
-    }
-    if same(f, b"adams") {
-        return Named::Known(Method::Adams);
-    }
-    if same(f, b"dean") {
-        return Named::Known(Method::Dean);
-    }
-    if same(f, b"hill") {
-        return Named::Known(Method::Hill);
-    }
-    if same(f, b"webster") {
-        return Named::Known(Method::Webster);
-    }
-    if same(f, b"jefferson") {
-        return Named::Known(Method::Jefferson);
-    }
-    if same(f, b"remainders") {
-        return Named::Known(Method::Remainders);
+    let words = methods::WORDS;
+    let mut number = 0;
+    while number <= methods::LAST {
+        let method = methods::at(number);
+        if same(f, methods::word(&words, method)) {
+            return Named::Known(method);
+        }
+        number += 1;
     }
     Named::Unknown
 }

@@ -25,19 +25,11 @@ pub struct Head {
 fn is_head(ended: bool, word: &[u8], method: &[u8], house: &[u8], count: &[u8]) -> bool
     ensures { λ r. ⌜ r ≡ headFormed ended (now (word .entry)) (now (method .entry)) (now (house .entry)) (now (count .entry)) ⌝ }
 {
-    if !ended {
-        return false;
-    }
-    if !parts::same(word, b"register") {
-        return false;
-    }
-    if !words::is_method_field(method) {
-        return false;
-    }
-    if !numbers::is_number(house) {
-        return false;
-    }
-    numbers::is_number(count)
+    ended
+        & parts::same(word, b"register")
+        & words::is_method_field(method)
+        & numbers::is_number(house)
+        & numbers::is_number(count)
 }
 
 fn refused(refusal: u64) -> Head

@@ -38,13 +38,7 @@ pub fn name_at(s: &[u8]) -> &[u8]
 fn is_pair(ended: bool, passes: bool, digits: &[u8]) -> bool
     ensures { λ r. ⌜ r ≡ pairFormed ended passes (now (digits .entry)) ⌝ }
 {
-    if !ended {
-        return false;
-    }
-    if !passes {
-        return false;
-    }
-    numbers::is_number(digits)
+    ended & passes & numbers::is_number(digits)
 }
 
 // Whether the name that stands from `a` to `e` and has the fingerprint `its` is `name`, whose fingerprint is `print`. Bytes are compared

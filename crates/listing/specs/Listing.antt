@@ -9,8 +9,8 @@ use lib.Dec.{leb, eqb}
 use lib.ListN.{length, getD, take, drop}
 use Rattle.apportionment.specs.Refusals.{accepted, bufferTooShort}
 use Rattle.apportionment.specs.Lists.{sum}
-use Rattle.apportionment.specs.Text.{bytesOf, decimal}
-use Rattle.apportionment.specs.Quantities.{shownOf, shownText, sizeOf, markOf, markText}
+use Rattle.apportionment.specs.Text.{bytesOf}
+use Rattle.apportionment.specs.Quantities.{departureText, markFor, markText}
 use Rattle.apportionment.specs.Allotment.{allotRefusal, seatsOf}
 use Rattle.apportionment.specs.declared.Method.{Method}
 use Rattle.apportionment.specs.Methods.{methodText}
@@ -26,15 +26,10 @@ use Rattle.listing.specs.declared.Listed.{Listed}
 unfoldable pub headLine : Method → (H n : ℕ) → List ℕ
 headLine m H n = bytesOf "allotment," ++ methodText m ++ numbersText H n ++ bytesOf "\n"
 
--- The shown departure and the mark of a state; without a seat it has neither.
-unfoldable pub departureText : (p a P H : ℕ) → List ℕ
-departureText p a P H =
-    let seated = shownText (shownOf p a P H) ++ bytesOf "," ++ markText (markOf (sizeOf p a P H)) in
-    cond (eqb a 0) (bytesOf "none,none") seated
-
 -- A state's line: name, population, seats, shown departure, mark.
 unfoldable pub stateLine : (name : List ℕ) (p a P H : ℕ) → List ℕ
-stateLine name p a P H = name ++ numbersText p a ++ bytesOf "," ++ departureText p a P H ++ bytesOf "\n"
+stateLine name p a P H =
+    name ++ numbersText p a ++ bytesOf "," ++ departureText p a P H ++ bytesOf "," ++ markText (markFor p a P H) ++ bytesOf "\n"
 
 -- The lines of the first k states.
 unfoldable pub stateLines : (name : ℕ → List ℕ) (ps seats : List ℕ) (P H k : ℕ) → List ℕ

@@ -14,9 +14,16 @@ ghost use Rattle.listing.specs.Listing.{listingIn, refused, ListingIs, p
 ghost use Rattle.listing.specs.inner.Room.{AllListable};
 ghost use Rattle.listing.specs.inner.Listed.{GoodReading, HandedOver};
 
-// Room for every listing there is, as specs/Room.antt shows; a listing is written there first, so that a buffer that is too short stays as
-// it is. The numbers are the longest head, the longest line of a state and the longest line of totals.
-pub const LISTING_ROOM: usize = 30 + STATE_LIMIT * 64 + 22;
+// The room of the longest head, line of a state and line of totals; specs/inner/Room.antt says what each is made of.
+const HEAD_ROOM: usize = 30;
+
+const LINE_ROOM: usize = 64;
+
+const TOTAL_ROOM: usize = 22;
+
+// Room for every listing there is, as specs/inner/Room.antt shows; a listing is written there first, so that a buffer that is too short
+// stays as it is.
+pub const LISTING_ROOM: usize = HEAD_ROOM + STATE_LIMIT * LINE_ROOM + TOTAL_ROOM;
 
 // What writing a listing answers: a refusal's number and line, or 0, 0 and the listing's length.
 pub struct Listed {

@@ -1,17 +1,16 @@
 // The lines of a listing, each written from a place on; see crate `text` for what that place is.
 use apportionment::Method;
-use departure::Departure;
+use departure::departure_of;
 use register::rows::name_placed;
-ghost use mathlib.Core.Path.{_≡_};
+use text::answers;
 ghost use mathlib.Core.List.{[]};
-ghost use Prim.Native.Nat.{ℕ, _<_};
+ghost use Prim.Native.Nat.{_<_};
 ghost use lib.ListN.{length};
-ghost use Rattle.departure.specs.inner.Answer.{InLimits};
+ghost use Rattle.departure.specs.inner.Answer.{AllInLimits, InLimits};
 ghost use Rattle.register.specs.Names.{nameInRow};
 ghost use Rattle.register.specs.inner.Rows.{Placed};
 ghost use Rattle.text.specs.Writing.{Wrote};
-ghost use Rattle.listing.specs.Listing.{headLine, departureText, stateLine, stateLines};
-ghost use Rattle.listing.specs.inner.Rows.{Rows};
+ghost use Rattle.listing.specs.Listing.{headLine, stateLine, stateLines};
 
 // Line 1.
 pub fn put_head(out: &mut [u8], at: usize, method: Method, house: u64, states: u64) -> usize
@@ -21,27 +20,6 @@ pub fn put_head(out: &mut [u8], at: usize, method: Method, house: u64, states: u
     let named = text::put_method(out, word, method);
     let numbers = text::put_numbers(out, named, house, states);
     text::put_byte(out, numbers, b'\n')
-}
-
-// The shown departure and the mark of a state, or `none` for both.
-fn put_departure(
-    out: &mut [u8],
-    at: usize,
-    population: u64,
-    seats: u64,
-    total: u64,
-    house: u64,
-) -> usize
-    requires { ⌜ InLimits population seats total house ⌝ }
-    ensures { λ r. ⌜ Wrote (now (out .entry)) at (departureText population seats total house) (now (out .exit)) r ⌝ }
-{
-    if seats == 0 {
-        return text::put_bytes(out, at, b"none,none");
-    }
-    let departure = Departure::of(population, seats, total, house);
-    let shown = text::put_shown(out, at, departure.hundredths());
-    let comma = text::put_byte(out, shown, b',');
-    text::put_mark(out, comma, departure.mark())
 }
 
 // A state's line.
@@ -57,11 +35,14 @@ fn put_state(
     requires { ⌜ InLimits population seats total house ⌝ }
     ensures { λ r. ⌜ Wrote (now (out .entry)) at (stateLine (now (name .entry)) population seats total house) (now (out .exit)) r ⌝ }
 {
+    let answer = departure_of(population, seats, total, house);
     let named = text::put_bytes(out, at, name);
     let numbers = text::put_numbers(out, named, population, seats);
     let comma = text::put_byte(out, numbers, b',');
-    let shown = put_departure(out, comma, population, seats, total, house);
-    text::put_byte(out, shown, b'\n')
+    let shown = answers::put_departure(out, comma, answer);
+    let next = text::put_byte(out, shown, b',');
+    let marked = answers::put_mark(out, next, answer);
+    text::put_byte(out, marked, b'\n')
 }
 
 // The states' lines. Their names stand in the rows of the register, from their starts to their ends.
@@ -76,7 +57,7 @@ pub fn put_states(
     total: u64,
     house: u64,
 ) -> usize
-    requires begun { ⌜ Wrote (now out) at [] (now out) at × Rows (now populations) (now seats) total house ⌝ }
+    requires begun { ⌜ Wrote (now out) at [] (now out) at × AllInLimits (now populations) (now seats) total house ⌝ }
     requires placed { ⌜ Placed (length (now populations)) (now rows) (now starts) (now ends) ⌝ }
     ensures { λ r. ⌜ Wrote (now (out .entry)) at
         (stateLines (nameInRow (now (rows .entry))) (now (populations .entry)) (now (seats .entry)) total house

@@ -10,7 +10,6 @@ use leximin::start::start_total;
 use problem::open_refusal;
 use problem::total_of;
 ghost use mathlib.Core.Path.{_≡_};
-ghost use mathlib.Core.Bool.{false};
 ghost use Rattle.apportionment.specs.inner.Problem.{Problem, Fillable};
 ghost use Rattle.placing.specs.Placing.{genuine};
 ghost use Rattle.placing.specs.inner.Genuine.{stepsAgree, seatsAgree};

@@ -5,23 +5,15 @@
 -- Assumes nothing.
 use mathlib.Core.Bool.{Bool, cond}
 use mathlib.Core.List.{List, [], _++_}
-use mathlib.Core.Option.{Option·elim}
-use Prim.Native.Nat.{ℕ, zero, suc, _+_, _-_, min}
+use Prim.Native.Nat.{ℕ, zero, suc, _+_, _-_}
 use lib.Dec.{ltb, eqb}
 use lib.ListN.{length, getD, take}
-use Rattle.apportionment.specs.Limits.{stateLimit}
 use Rattle.apportionment.specs.Text.{bytesOf, decimal}
-use Rattle.apportionment.specs.Quantities.{shownText}
-use Rattle.departure.specs.Answer.{departureShown}
+use Rattle.apportionment.specs.Quantities.{departureText}
 use Rattle.register.specs.Names.{nameInRow}
 use Rattle.text.specs.Shared.{numbersText, totalLine}
+use Rattle.placing.specs.Placing.{peopleOf}
 use Rattle.placing.specs.declared.Placing.{Placing}
-
--- ---- departures
-
--- A departure as text: the shown one, or `none` where there is none, for want of a seat or because the numbers are outside their limits.
-unfoldable pub departureText : (p a P H : ℕ) → List ℕ
-departureText p a P H = Option·elim (departureShown p a P H) (bytesOf "none") shownText
 
 -- ---- the lines of the start and the end
 
@@ -29,7 +21,7 @@ departureText p a P H = Option·elim (departureShown p a P H) (bytesOf "none") s
 unfoldable pub headLine : (H n : ℕ) → List ℕ
 headLine H n = bytesOf "work,leximin" ++ numbersText H n ++ bytesOf "\n"
 
--- A state as it stands: the line's word, name, population, seats, departure.
+-- A state with its seats: the line's word, name, population, seats, departure.
 unfoldable pub stateLine : (word name : List ℕ) (p a P H : ℕ) → List ℕ
 stateLine word name p a P H = word ++ name ++ numbersText p a ++ bytesOf "," ++ departureText p a P H ++ bytesOf "\n"
 
@@ -46,10 +38,9 @@ unfoldable pub movedText : (name : List ℕ) (p a b P H : ℕ) → List ℕ
 movedText name p a b P H =
     name ++ numbersText a b ++ bytesOf "," ++ departureText p a P H ++ bytesOf "," ++ departureText p b P H
 
--- The seats of a state if it is the one that moves: one more where a seat is added, one fewer where one is withdrawn. No state has more
--- than the house; short of the house none has as many, so that in the work itself this bound changes nothing.
-unfoldable pub seatsIfMoved : (adds : Bool) (a H : ℕ) → ℕ
-seatsIfMoved adds a H = cond adds (min (a + 1) H) (a - 1)
+-- The seats of a state if it is the one that moves: one more where a seat is added, one fewer where one is withdrawn.
+unfoldable pub seatsIfMoved : (adds : Bool) (a : ℕ) → ℕ
+seatsIfMoved adds a = cond adds (a + 1) (a - 1)
 
 -- A state weighed: the step's number, name, seats, seats if it moved, departure, departure if it moved.
 unfoldable pub weighedLine : (step : ℕ) (name : List ℕ) (p a b P H : ℕ) → List ℕ
@@ -59,7 +50,7 @@ weighedLine step name p a b P H =
 -- State k weighed, and the first k states.
 unfoldable pub weighedAt : (step : ℕ) (adds : Bool) (rows ps seats : List ℕ) (P H k : ℕ) → List ℕ
 weighedAt step adds rows ps seats P H k =
-    weighedLine step (nameInRow rows k) (getD ps k 0) (getD seats k 0) (seatsIfMoved adds (getD seats k 0) H) P H
+    weighedLine step (nameInRow rows k) (getD ps k 0) (getD seats k 0) (seatsIfMoved adds (getD seats k 0)) P H
 
 unfoldable pub weighedLines : (step : ℕ) (adds : Bool) (rows ps seats : List ℕ) (P H k : ℕ) → List ℕ
 weighedLines step adds rows ps seats P H zero = []
@@ -88,47 +79,37 @@ firstDifference xs ys = differenceFrom xs ys (length xs) 0
 
 -- ---- the blocks
 
--- The states that a placing holds: as many as it says, and no more than it has places for. Opening and stepping never say more.
-unfoldable pub statesIn : Placing → ℕ
-statesIn p = min (p .states) stateLimit
-
--- Their populations and seats.
-unfoldable pub populationsIn : Placing → List ℕ
-populationsIn p = take (statesIn p) (p .populations)
-
+-- A placing's own seats, beside `peopleOf`, its own populations.
 unfoldable pub seatsIn : Placing → List ℕ
-seatsIn p = take (statesIn p) (p .seats)
+seatsIn p = take (p .states) (p .seats)
 
--- The states of a placing as they stand, and their totals.
-unfoldable pub standText : (word rows : List ℕ) → Placing → (P : ℕ) → List ℕ
-standText word rows p P =
-    stateLines word rows (populationsIn p) (seatsIn p) P (p .house) (statesIn p) ++ totalLine P (p .total)
+-- The states of a placing, each with its seats and departure, and their totals.
+unfoldable pub statesText : (word rows : List ℕ) → Placing → (P : ℕ) → List ℕ
+statesText word rows p P =
+    stateLines word rows (peopleOf p) (seatsIn p) P (p .house) (p .states) ++ totalLine P (p .total)
 
 -- The start: the first line, then every state at its own nearest seats, and the starting total.
 unfoldable pub startText : (rows : List ℕ) → Placing → (P : ℕ) → List ℕ
-startText rows p P = headLine (p .house) (statesIn p) ++ standText (bytesOf "start,") rows p P
+startText rows p P = headLine (p .house) (p .states) ++ statesText (bytesOf "start,") rows p P
 
 -- The end: every state at the house.
 unfoldable pub endText : (rows : List ℕ) → Placing → (P : ℕ) → List ℕ
-endText rows p P = standText (bytesOf "end,") rows p P
+endText rows p P = statesText (bytesOf "end,") rows p P
 
 -- Every state weighed, in a placing that is to make the step with this number.
 unfoldable pub weighedText : (step : ℕ) (rows : List ℕ) → Placing → (P : ℕ) → List ℕ
 weighedText step rows p P =
-    weighedLines step (ltb (p .total) (p .house)) rows (populationsIn p) (seatsIn p) P (p .house) (statesIn p)
+    weighedLines step (ltb (p .total) (p .house)) rows (peopleOf p) (seatsIn p) P (p .house) (p .states)
 
 -- The place of the state that moved between two placings: the first where their seats differ.
 unfoldable pub movedAt : (before after : Placing) → ℕ
-movedAt before after = firstDifference (seatsIn before) (take (statesIn before) (after .seats))
+movedAt before after = firstDifference (seatsIn before) (seatsIn after)
 
--- The line of the step of the state at a place; no line for a place that no state has.
+-- The line of the step of the state at a place.
 unfoldable pub stepText : (at : ℕ) (rows : List ℕ) (before after : Placing) (P : ℕ) → List ℕ
 stepText at rows before after P =
-    let line =
     stepLine (after .steps) (nameInRow rows at) (getD (before .populations) at 0) (getD (before .seats) at 0)
     (getD (after .seats) at 0) P (before .house) (after .total)
-    in
-    cond (ltb at (statesIn before)) line []
 
 -- A step from one placing to the next: what was weighed, and which state moved.
 unfoldable pub moveText : (rows : List ℕ) (before after : Placing) (P : ℕ) → List ℕ

@@ -1,16 +1,21 @@
 // The lines of the work, each written from a place on; see crate `text` for what that place is.
-use departure::Answer;
+use departure::departure_of;
 use register::rows::first_name;
 use register::rows::rest;
+use text::answers;
 ghost use mathlib.Core.Path.{_≡_};
 ghost use mathlib.Core.List.{[]};
+ghost use Prim.Native.Nat.{_<_, _≤_};
 ghost use lib.ListN.{length};
+ghost use Rattle.apportionment.specs.Limits.{houseLimit};
+ghost use Rattle.apportionment.specs.Quantities.{departureText};
+ghost use Rattle.departure.specs.inner.Answer.{InLimits, AllInLimits};
 ghost use Rattle.text.specs.Writing.{Wrote};
-ghost use Rattle.showing.specs.Work.{departureText, headLine, stateLine, stateLines, seatsIfMoved, movedText, weighedLine};
-ghost use Rattle.showing.specs.Work.{weighedLines, verbText, stepLine};
+ghost use Rattle.showing.specs.Work.{headLine, stateLine, stateLines, seatsIfMoved, movedText, weighedLine, weighedLines};
+ghost use Rattle.showing.specs.Work.{verbText, stepLine};
+ghost use Rattle.showing.specs.inner.Showable.{Weighable};
 
-// The shown departure of a state, or `none` where it has no seat. Numbers outside their limits, which no placing that opening gave holds,
-// have no departure either.
+// The departure of a state, or `none` where it has no seat.
 fn put_departure(
     out: &mut [u8],
     at: usize,
@@ -19,17 +24,10 @@ fn put_departure(
     sum: u64,
     house: u64,
 ) -> usize
+    requires { ⌜ InLimits population seats sum house ⌝ }
     ensures { λ r. ⌜ Wrote (now (out .entry)) at (departureText population seats sum house) (now (out .exit)) r ⌝ }
 {
-    let answer = departure::departure_of(population, seats, sum, house);
-    match answer {
-        Answer::Refused => text::put_bytes(out, at, b"none"),
-        Answer::NoSeats => text::put_bytes(out, at, b"none"),
-        Answer::Shown {
-            hundredths,
-            mark: _,
-        } => text::put_shown(out, at, hundredths),
-    }
+    answers::put_departure(out, at, departure_of(population, seats, sum, house))
 }
 
 // The first line.
@@ -41,7 +39,7 @@ pub fn put_head(out: &mut [u8], at: usize, house: u64, states: u64) -> usize
     text::put_byte(out, numbers, b'\n')
 }
 
-// A state as it stands, on a line that starts with `word`.
+// A state with its seats and departure, on a line that starts with `word`.
 fn put_state(
     out: &mut [u8],
     at: usize,
@@ -52,6 +50,7 @@ fn put_state(
     sum: u64,
     house: u64,
 ) -> usize
+    requires { ⌜ InLimits population seats sum house ⌝ }
     ensures { λ r. ⌜ Wrote (now (out .entry)) at (stateLine (now (word .entry)) (now (name .entry)) population seats sum house)
         (now (out .exit)) r ⌝ }
 {
@@ -63,7 +62,7 @@ fn put_state(
     text::put_byte(out, shown, b'\n')
 }
 
-// The states as they stand. Their names stand on the lines of the register that start at `rows`.
+// The lines of the states. Their names are on the lines of the register that start at `rows`.
 pub fn put_states(
     out: &mut [u8],
     at: usize,
@@ -74,7 +73,7 @@ pub fn put_states(
     sum: u64,
     house: u64,
 ) -> usize
-    requires { ⌜ Wrote (now out) at [] (now out) at × (length (now seats) ≡ length (now populations)) ⌝ }
+    requires { ⌜ Wrote (now out) at [] (now out) at × AllInLimits (now populations) (now seats) sum house ⌝ }
     ensures { λ r. ⌜ Wrote (now (out .entry)) at
         (stateLines (now (word .entry)) (now (rows .entry)) (now (populations .entry)) (now (seats .entry)) sum house
         (length (now (populations .entry)))) (now (out .exit)) r ⌝ }
@@ -100,18 +99,13 @@ pub fn put_states(
     next
 }
 
-// The seats of a state if it moves. The bound by the house keeps any number from passing 64 bits.
-fn seats_if_moved(adds: bool, seats: u64, house: u64) -> u64
-    ensures { λ r. ⌜ r ≡ seatsIfMoved adds seats house ⌝ }
+// The seats of a state if it moves.
+fn seats_if_moved(adds: bool, seats: u64) -> u64
+    requires { ⌜ (0 < seats) × (seatsIfMoved adds seats ≤ houseLimit) ⌝ }
+    ensures { λ r. ⌜ r ≡ seatsIfMoved adds seats ⌝ }
 {
     if adds {
-        if seats < house {
-            return seats + 1;
-        }
-        return house;
-    }
-    if seats == 0 {
-        return 0;
+        return seats + 1;
     }
     seats - 1
 }
@@ -127,6 +121,7 @@ fn put_moved(
     sum: u64,
     house: u64,
 ) -> usize
+    requires { ⌜ InLimits population from sum house × InLimits population to sum house ⌝ }
     ensures { λ r. ⌜ Wrote (now (out .entry)) at (movedText (now (name .entry)) population from to sum house) (now (out .exit)) r ⌝ }
 {
     let named = text::put_bytes(out, at, name);
@@ -149,6 +144,7 @@ fn put_weighed(
     sum: u64,
     house: u64,
 ) -> usize
+    requires { ⌜ InLimits population seats sum house × InLimits population moved sum house ⌝ }
     ensures { λ r. ⌜ Wrote (now (out .entry)) at (weighedLine step (now (name .entry)) population seats moved sum house)
         (now (out .exit)) r ⌝ }
 {
@@ -171,7 +167,7 @@ pub fn put_weighings(
     sum: u64,
     house: u64,
 ) -> usize
-    requires { ⌜ Wrote (now out) at [] (now out) at × (length (now seats) ≡ length (now populations)) ⌝ }
+    requires { ⌜ Wrote (now out) at [] (now out) at × Weighable adds (now populations) (now seats) sum house ⌝ }
     ensures { λ r. ⌜ Wrote (now (out .entry)) at
         (weighedLines step adds (now (rows .entry)) (now (populations .entry)) (now (seats .entry)) sum house
         (length (now (populations .entry)))) (now (out .exit)) r ⌝ }
@@ -188,7 +184,7 @@ pub fn put_weighings(
             first_name(row),
             populations[k],
             held,
-            seats_if_moved(adds, held, house),
+            seats_if_moved(adds, held),
             sum,
             house,
         );
@@ -222,6 +218,7 @@ pub fn put_step(
     house: u64,
     total: u64,
 ) -> usize
+    requires { ⌜ InLimits population from sum house × InLimits population to sum house ⌝ }
     ensures { λ r. ⌜ Wrote (now (out .entry)) at (stepLine step (now (name .entry)) population from to sum house total)
         (now (out .exit)) r ⌝ }
 {

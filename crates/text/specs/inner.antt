@@ -1,5 +1,5 @@
--- The law that joins what two calls wrote, and how long a piece of text can be.
+-- The law that joins what two calls wrote, how long a piece of text can be, and what a departure is written as.
 pub mod Writing
 pub mod Decimal
 pub mod Bounds
-pub mod ShownRoom
+pub mod Departures

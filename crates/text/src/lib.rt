@@ -1,8 +1,11 @@
 // Writing text into a lent buffer. Each function writes from place `at` on and hands back the place after what it wrote; once something
 // did not fit, that is one past the buffer's length, and every later call leaves it there and the buffer as it is. So a caller writes all
 // that it has and asks once, at the end, whether it fitted. No function reads the place as an index before it is known to be one.
+pub mod answers;
+
 use apportionment::Mark;
 use apportionment::Method;
+use apportionment::methods;
 ghost use mathlib.Core.Path.{_≡_};
 ghost use mathlib.Core.List.{_∷_, []};
 ghost use Prim.Native.Nat.{_+_, _<_, _≤_};
@@ -112,15 +115,8 @@ pub fn put_mark(out: &mut [u8], at: usize, mark: Mark) -> usize
 pub fn put_method(out: &mut [u8], at: usize, method: Method) -> usize
     ensures { λ r. ⌜ Wrote (now (out .entry)) at (methodText method) (now (out .exit)) r ⌝ }
 {
-    match method {
-        Method::Leximin => put_bytes(out, at, b"leximin"),
-        Method::Adams => put_bytes(out, at, b"adams"),
-        Method::Dean => put_bytes(out, at, b"dean"),
-        Method::Hill => put_bytes(out, at, b"hill"),
-        Method::Webster => put_bytes(out, at, b"webster"),
-        Method::Jefferson => put_bytes(out, at, b"jefferson"),
-        Method::Remainders => put_bytes(out, at, b"remainders"),
-    }
+    let words = methods::WORDS;
+    put_bytes(out, at, methods::word(&words, method))
 }
 
 // Two numbers, each after a comma.

@@ -9,7 +9,7 @@ use register::rows;
 use showing::PAGE_ROOM;
 ghost use mathlib.Core.Path.{_≡_};
 ghost use mathlib.Core.Bool.{true};
-ghost use Rattle.showing.specs.inner.Room.{Showable};
+ghost use Rattle.showing.specs.inner.Showable.{Showable, ShowableStep};
 ghost use Rattle.work.specs.inner.Way.{Begun, onTheWay, wayOf};
 
 // Room for the line of a refusal.
@@ -37,7 +37,7 @@ fn print_start(rows: &[u8], placing: Placing, sum: u64) -> bool
 }
 
 fn print_move(rows: &[u8], before: Placing, after: Placing, sum: u64) -> bool
-    requires { ⌜ Showable (now rows) before sum × Showable (now rows) after sum ⌝ }
+    requires { ⌜ ShowableStep (now rows) before after sum ⌝ }
 {
     let mut page = [0u8; PAGE_ROOM];
     let size = showing::put_move(&mut page[..], rows, before, after, sum);

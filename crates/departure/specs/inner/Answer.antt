@@ -4,16 +4,18 @@
 use mathlib.Core.Path.{_≡_, refl, sym}
 use mathlib.Core.Bool.{Bool, true, false, cond}
 use mathlib.Core.Logic.{_↔_}
+use mathlib.Core.List.{List}
 use Prim.Native.Nat.{ℕ, _*_, _<_, _≤_}
 use native.Mathlib.Nat.{mul-le-mul, mul-pos, le-trans, le-refl}
 use native.Mathlib.Omega.{arith}
-use lib.Dec.{eqb, ltb}
+use lib.Dec.{ltb}
+use lib.ListN.{length, getD}
 use borrow.Author.Tests.{ltb-false, le-ltb, eq-eqb, ne-eqb}
 use Rattle.apportionment.specs.Limits.{houseLimit, sumLimit}
 use Rattle.apportionment.specs.Refusals.{accepted, departureOutOfLimits}
 use Rattle.apportionment.specs.Checks.{outside, firstRefusal}
 use Rattle.apportionment.specs.inner.Checks.{check-passed, inside-limits, inside-false}
-use Rattle.apportionment.specs.Quantities.{distance, markOf, shownOf, sizeOf}
+use Rattle.apportionment.specs.Quantities.{distance, markFor, markOf, shownOf, sizeOf}
 use Rattle.departure.specs.declared.Answer.{Answer}
 use Rattle.departure.specs.declared.Answer.the-variants.{Refused, NoSeats, Shown}
 use Rattle.departure.specs.inner.Exact.{Moderate}
@@ -50,6 +52,11 @@ pub record InLimits (p a P H : ℕ) : Type 0 where
   pub some-people : 0 < p
   pub people-within : p ≤ P
   pub seats-within : a ≤ H
+
+-- Each of several states within the limits, with a seat count for each population.
+pub record AllInLimits (ps seats : List ℕ) (P H : ℕ) : Type 0 where
+  pub paired : length seats ≡ length ps
+  pub each : (i : ℕ) → i < length ps → InLimits (getD ps i 0) (getD seats i 0) P H
 
 -- What is not refused is within the limits.
 pub not-refused : (p a P H : ℕ) → departureRefusal p a P H ≡ accepted → InLimits p a P H
@@ -102,8 +109,10 @@ accepted-exactly p a P H = (not-refused p a P H, within-not-refused p a P H)
 
 -- .. and 30 exactly outside them.
 pub refused-exactly : (p a P H : ℕ) → departureRefusal p a P H ≡ departureOutOfLimits ↔ (InLimits p a P H → ⊥)
-refused-exactly p a P H =
-    (λ e within. omega (arith, e, within-not-refused p a P H within), λ outside. refused-is-30 p a P H (λ e. outside (not-refused p a P H e)))
+refused-exactly p a P H = (
+  λ e within. omega (arith, e, within-not-refused p a P H within),
+  λ outside. refused-is-30 p a P H (λ e. outside (not-refused p a P H e)),
+)
 
 -- ---- which answer is promised
 
@@ -115,7 +124,7 @@ module _ (p a P H : ℕ) where
       record { number = sym (refused-is-30 p a P H refused); shown = simp no; mark = simp no }
 
   pub unseated-answer : departureRefusal p a P H ≡ accepted → a ≡ 0 → AnswerIs p a P H NoSeats
-  unfolding numberOf shownIn markIn departureShown departureMark
+  unfolding numberOf shownIn markIn departureShown departureMark markFor
   unseated-answer good unseated =
       let yes = eq-eqb (departureRefusal p a P H) accepted good in
       let bare = eq-eqb a 0 unseated in
@@ -123,7 +132,7 @@ module _ (p a P H : ℕ) where
 
   pub seated-answer : departureRefusal p a P H ≡ accepted → (a ≡ 0 → ⊥)
       → AnswerIs p a P H (Shown (shownOf p a P H) (markOf (sizeOf p a P H)))
-  unfolding numberOf shownIn markIn departureShown departureMark
+  unfolding numberOf shownIn markIn departureShown departureMark markFor
   seated-answer good seated =
       let yes = eq-eqb (departureRefusal p a P H) accepted good in
       let some-seat = ne-eqb a 0 seated in

@@ -1,25 +1,22 @@
 -- What is shown at the edges: at zero, at halves and at the largest departures. Laws for every input, then one list of
--- computed answers.
+-- computed answers. How large a shown departure can be is in apportionment/specs/inner/Quantities.antt.
 -- Assumes nothing.
 use mathlib.Core.Path.{_≡_, refl}
-use mathlib.Core.Bool.{Bool, true, false, cond}
+use mathlib.Core.Bool.{cond}
 use mathlib.Core.List.{List, [], _∷_, map}
 use mathlib.Core.Option.{Option}
-use Prim.Native.Nat.{ℕ, suc, _+_, _-_, _*_, _<_, _≤_}
-use native.Mathlib.Nat.{add-mul, mul-assoc, mul-left-comm, mul-le-mul, mul-pos, le-refl, one-mul, div-eq-of-lt, div-eq-of-lt-le}
-use native.Mathlib.Nat.{div-lt-iff-lt-mul}
+use Prim.Native.Nat.{ℕ, suc, _+_, _-_, _*_, _<_}
+use native.Mathlib.Nat.{add-mul, mul-assoc, mul-left-comm, one-mul, div-eq-of-lt, div-eq-of-lt-le}
 use native.Mathlib.Numerals.{add-one}
 use native.Mathlib.Omega.{arith}
 use lib.IntN.{ℤ, pos, negsuc, negℤ}
-use borrow.Author.Tests.{ltb-true}
-use Rattle.apportionment.specs.Limits.{houseLimit}
 use Rattle.apportionment.specs.Checks.{within, outside, firstRefusal}
-use Rattle.apportionment.specs.Quantities.{atMost, distance, hundredthsOf, isBelow, markOf, nearestWhole, shownOf, sizeOf}
+use Rattle.apportionment.specs.inner.Tests.{cond-both}
+use Rattle.apportionment.specs.Quantities.{atMost, distance, hundredthsOf, isBelow, markFor, markOf, nearestWhole, shownOf, sizeOf}
 use Rattle.apportionment.specs.declared.Mark.{Mark}
 use Rattle.apportionment.specs.declared.Mark.the-variants.{In, High, Over}
 use Rattle.departure.specs.declared.Answer.{Answer}
 use Rattle.departure.specs.declared.Answer.the-variants.{Refused, NoSeats, Shown}
-use Rattle.departure.specs.inner.Answer.{InLimits}
 use Rattle.departure.specs.Answer.{departureChecks, departureMark, departureRefusal, departureShown, markIn, numberOf, shownIn}
 
 -- ---- zero
@@ -27,11 +24,8 @@ use Rattle.departure.specs.Answer.{departureChecks, departureMark, depar
 -- What rounds to zero has no sign.
 pub zero-has-no-sign : (p a P H : ℕ) → hundredthsOf (sizeOf p a P H) ≡ 0 → shownOf p a P H ≡ pos 0
 unfolding shownOf
-zero-has-no-sign p a P H e = rw e (by (isBelow p a P H))
-  where
-    by : (t : Bool) → cond t (negℤ (pos 0)) (pos 0) ≡ pos 0
-    by true = refl
-    by false = refl
+zero-has-no-sign p a P H e =
+    rw e (cond-both (λ (shown : ℤ). shown ≡ pos 0) (isBelow p a P H) (negℤ (pos 0)) (pos 0) (λ _. refl) (λ _. refl))
 
 nothing-over : (p a P H : ℕ) → 0 < a * P → p * H ≡ a * P → hundredthsOf (sizeOf p a P H) ≡ 0
 unfolding hundredthsOf sizeOf distance nearestWhole
@@ -64,35 +58,6 @@ pub half-goes-away-from-zero : (p a P H k : ℕ)
     → shownOf p a P H ≡ cond (isBelow p a P H) (negsuc k) (pos (suc k))
 unfolding shownOf hundredthsOf sizeOf
 half-goes-away-from-zero p a P H k positive e = simp (half-goes-up (10000 * distance (p * H) (a * P)) (a * P) k positive e, add-one)
-
--- ---- the largest departures
-
-wholes-doubled : (k under : ℕ) → (10000 * k + 1) * (2 * under) ≡ 20000 * (k * under) + 2 * under
-wholes-doubled k under =
-    omega (arith, add-mul (10000 * k) 1 (2 * under), mul-assoc 10000 k (2 * under), mul-left-comm k 2 under)
-
--- A size of at most k wholes is shown as at most k wholes.
-pub at-most-wholes : (k over under : ℕ) → 0 < under → over ≤ k * under → nearestWhole (10000 * over) under ≤ 10000 * k
-unfolding nearestWhole
-at-most-wholes k over under positive low =
-    let divisor : 0 < 2 * under = omega arith in
-    let low-enough : 2 * (10000 * over) + under < (10000 * k + 1) * (2 * under) = omega (arith, wholes-doubled k under) in
-    let below : nearestWhole (10000 * over) under < 10000 * k + 1 = div-lt-iff-lt-mul divisor .1 low-enough in
-    omega arith
-
--- Above the average no state shows more than the largest house less one ..
-pub largest-above : (p a P H : ℕ) → InLimits p a P H → 0 < a → hundredthsOf (sizeOf p a P H) ≤ 10000 * (houseLimit - 1)
-unfolding hundredthsOf sizeOf distance
-largest-above p a P H within seated =
-    at-most-wholes (houseLimit - 1) _ (a * P)
-    (mul-pos seated (within .some-total))
-    (omega (arith, mul-le-mul (within .people-within) (within .house-limited), mul-le-mul seated (le-refl P)))
-
--- .. and below it none shows more than 100 per cent.
-pub largest-below : (p a P H : ℕ) → 0 < a * P → isBelow p a P H ≡ true → hundredthsOf (sizeOf p a P H) ≤ 10000
-unfolding hundredthsOf sizeOf distance isBelow
-largest-below p a P H positive below =
-    at-most-wholes 1 _ (a * P) positive (omega (arith, ltb-true (p * H) (a * P) below))
 
 -- ---- computed answers
 
@@ -145,6 +110,6 @@ atTheEdges =
 
 -- Each input gives what is wanted: antt computes them.
 pub edges-hold : map given atTheEdges ≡ map wanted atTheEdges
-unfolding given wanted atTheEdges departureRefusal departureShown departureMark numberOf shownIn markIn departureChecks firstRefusal outside within
-    shownOf isBelow hundredthsOf sizeOf distance nearestWhole markOf atMost
+unfolding given wanted atTheEdges departureRefusal departureShown departureMark numberOf shownIn markIn departureChecks firstRefusal outside
+    within shownOf isBelow hundredthsOf sizeOf distance nearestWhole markFor markOf atMost
 edges-hold = refl

@@ -12,8 +12,8 @@ returns : tie.Need-returns
 unfolding allottedBy seatsBy
 returns c = (rw (lt-ltb _ _ (c .if1 .taken)), rw (lt-ltb _ _ (c .if1 .taken)))
 
-method-at-requires : tie.Need-method-at-requires
-method-at-requires c κs = search needs
+at-requires : tie.Need-at-requires
+at-requires c κs = search needs
 
 allot-requires : tie.Need-allot-requires
 allot-requires c κs = search needs
@@ -24,10 +24,9 @@ same-length c = search needs
 returns-2 : tie.Need-returns-2
 returns-2 c =
     let at-allot = c .before .before in
-    let at-method-at = at-allot .before .before in
-    let at-if1 = at-method-at .before in
-    by-method (at-if1 .if1 .left) (at-method-at .method-at .ensures) (at-allot .allot .ensures)
+    let at-at = at-allot .before .before in
+    by-method (at-at .before .if1 .left) (at-at .at .ensures) (at-allot .allot .ensures)
 
 pub desk-allot-spec : {M : Type 1} → statement M
 desk-allot-spec =
-    tie.close (tie.spec returns method-at-requires allot-requires same-length returns-2)
+    tie.close (tie.spec returns at-requires allot-requires same-length returns-2)

@@ -6,7 +6,6 @@ use borrow.Author.Needs.{needs}
 use Rattle.departure.specs.Answer.{markIn, numberOf, shownIn}
 use Rattle.desk.specs.inner.Exported.{exportedAnswer}
 use Rattle.desk.specs.Exported.{exportedShown}
-use Rattle.desk.specs.Numbers.{markNumber}
 use Rattle.desk.proofs.exported_answer.Statement.{statement}
 use Rattle.desk.proofs.exported_answer.Tie as tie
 
@@ -23,11 +22,11 @@ exported-shown-requires : tie.Need-exported-shown-requires
 exported-shown-requires c κs = search needs
 
 returns : tie.Need-returns
-unfolding exportedAnswer exportedShown numberOf shownIn markIn markNumber
+unfolding exportedAnswer exportedShown numberOf shownIn markIn
 returns c = rw (c .enum-told .given .1)
 
 returns-2 : tie.Need-returns-2
-unfolding exportedAnswer exportedShown numberOf shownIn markIn markNumber
+unfolding exportedAnswer exportedShown numberOf shownIn markIn
 returns-2 c = rw (c .enum-told2 .given .1)
 
 returns-3 : tie.Need-returns-3

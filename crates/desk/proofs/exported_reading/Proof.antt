@@ -5,12 +5,12 @@ use Rattle.desk.proofs.exported_reading.Statement.{statement}
 use Rattle.desk.specs.Exported.{exportedReading}
 use Rattle.desk.proofs.exported_reading.Tie as tie
 
-method-number-requires : tie.Need-method-number-requires
-method-number-requires c κs = search needs
+number-requires : tie.Need-number-requires
+number-requires c κs = search needs
 
 returns : tie.Need-returns
 unfolding exportedReading
-returns c = rw (c .before .method-number .ensures)
+returns c = rw (c .before .number .ensures .0)
 
 pub exported-reading-spec : {M : Type 1} → statement M
-exported-reading-spec = tie.close (tie.spec method-number-requires returns)
+exported-reading-spec = tie.close (tie.spec number-requires returns)

@@ -7,12 +7,12 @@ use Prim.Native.Nat.{ℕ, _≤_}
 use lib.Dec.{ltb}
 use lib.ListN.{length}
 use borrow.Author.Tests.{le-ltb}
+use Rattle.apportionment.specs.Methods.{lastMethod, methodAt}
 use Rattle.apportionment.specs.Allotment.{seatsAfter}
 use Rattle.apportionment.specs.declared.Method.{Method}
 use Rattle.allot.specs.declared.Allotted.{Allotted}
 use Rattle.allot.specs.Allot.{AllotmentIs, allottedOf}
 use Rattle.desk.specs.declared.DeskAllotted.{DeskAllotted}
-use Rattle.desk.specs.Numbers.{lastMethod, methodAt}
 use Rattle.desk.specs.Allotting.{allottedBy, seatsBy}
 
 -- Both are what allotting by that method gives, where the number is one.

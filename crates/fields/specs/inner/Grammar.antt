@@ -1,7 +1,7 @@
 -- Laws of what Grammar.antt defines, which proofs cite.
 -- Assumes nothing.
 use mathlib.Core.Path.{_≡_, refl}
-use mathlib.Core.Bool.{true}
+use mathlib.Core.Bool.{true, cond}
 use mathlib.Core.List.{List, [], _∷_}
 use Prim.Native.Nat.{ℕ, _+_, _-_, _*_, _^_, _<_, _≤_}
 use native.Mathlib.Nat.{pow-suc, pow-le-pow-right, lt-of-lt-of-le}
@@ -9,11 +9,15 @@ use native.Mathlib.Numerals.{add-one}
 use native.Mathlib.Omega.{arith}
 use lib.ListN.{length, getD, drop, drop-of-length-le}
 use Rattle.apportionment.specs.Checks.{within}
+use Rattle.apportionment.specs.Lists.{sameList}
+use Rattle.apportionment.specs.Methods.{methods, methodText, methodAt, lastMethod}
+use Rattle.apportionment.specs.inner.Methods.{methods-from}
 use Rattle.fields.specs.inner.Tests.{both}
 use Rattle.apportionment.specs.inner.Checks.{within-limits}
-use Rattle.fields.specs.Parts.{has, after, allBetween}
+use Rattle.fields.specs.Parts.{allBetween}
 use Rattle.fields.specs.inner.Parts.{drop-step, between-at}
-use Rattle.fields.specs.Grammar.{lastByte, withoutReturn, digitLimit, isNumber, valueFrom, wordLimit, isName}
+use Rattle.fields.specs.Grammar.{lastByte, withoutReturn, digitLimit, isNumber, valueFrom, wordLimit, isName, firstNamed}
+use Rattle.fields.specs.declared.Named.the-variants.{Known, Unknown}
 
 -- ---- lines
 
@@ -56,3 +60,14 @@ ten-places v i small few = lt-of-lt-of-le small (pow-le-pow-right (omega arith) 
 pub name-length : (f : List ℕ) → isName f ≡ true → (1 ≤ length f) × (length f ≤ wordLimit)
 unfolding isName
 name-length f name = within-limits wordLimit (length f) (both (within wordLimit (length f)) _ name .0)
+
+-- Of the methods from a number on, the first is named if the field is its word, and otherwise one of those after it; past the last, none.
+pub named-from : (f : List ℕ) (n : ℕ) → n ≤ lastMethod
+    → firstNamed f (drop n methods)
+    ≡ cond (sameList f (methodText (methodAt n))) (Known (methodAt n)) (firstNamed f (drop (n + 1) methods))
+unfolding firstNamed
+named-from f n within = rw (methods-from n within)
+
+pub named-past : (f : List ℕ) (n : ℕ) → length methods ≤ n → firstNamed f (drop n methods) ≡ Unknown
+unfolding firstNamed
+named-past f n past = rw (drop-of-length-le methods past)

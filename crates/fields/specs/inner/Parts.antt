@@ -1,7 +1,7 @@
 -- Laws of what Parts.antt defines, which proofs cite.
 -- Assumes nothing.
 use mathlib.Core.Path.{_≡_, refl}
-use mathlib.Core.Bool.{Bool, true, false, cond, _&&_}
+use mathlib.Core.Bool.{and-false, true, false, cond}
 use mathlib.Core.List.{List, [], _∷_}
 use Prim.Native.Nat.{ℕ, zero, suc, _+_, _<_, _≤_}
 use native.Mathlib.Numerals.{add-one}
@@ -11,6 +11,7 @@ use lib.Dec.{leb, eqb}
 use lib.ListN.{length, getD, drop, drop-of-length-le}
 use lib.Seq.{drop-cons}
 use Rattle.apportionment.specs.Lists.{sameList}
+use Rattle.apportionment.specs.inner.Tests.{cond-both}
 use Rattle.fields.specs.inner.Tests.{both}
 use Rattle.fields.specs.Parts.{placeOf, allBetween}
 
@@ -36,11 +37,8 @@ place-end b s i past = rw (drop-of-length-le s past)
 pub place-within : (b : ℕ) (s : List ℕ) → placeOf b s ≤ length s
 unfolding placeOf
 place-within b [] = omega arith
-place-within b (x ∷ s) = by-test (eqb x b) (place-within b s)
-  where
-    by-test : (t : Bool) → placeOf b s ≤ length s → cond t 0 (suc (placeOf b s)) ≤ suc (length s)
-    by-test true h = omega arith
-    by-test false h = omega arith
+place-within b (x ∷ s) =
+    cond-both (λ (n : ℕ). n ≤ suc (length s)) (eqb x b) 0 (suc (placeOf b s)) (λ _. omega arith) (λ _. omega (arith, place-within b s))
 
 -- ---- bytes in a range
 
@@ -98,9 +96,4 @@ unfolding sameList
 same-only-at-one-length [] [] differ = absurd (differ refl)
 same-only-at-one-length [] (y ∷ t) differ = refl
 same-only-at-one-length (x ∷ s) [] differ = refl
-same-only-at-one-length (x ∷ s) (y ∷ t) differ =
-    by-test (eqb x y) (same-only-at-one-length s t (λ e. differ (omega arith)))
-  where
-    by-test : (b : Bool) → sameList s t ≡ false → (b && sameList s t) ≡ false
-    by-test true e = e
-    by-test false e = refl
+same-only-at-one-length (x ∷ s) (y ∷ t) differ = rw (same-only-at-one-length s t (λ e. differ (omega arith)), and-false (eqb x y))

@@ -1,13 +1,14 @@
 -- What reading a state's line hands on, so that no line is cut twice. A reader who only wants the grammar need not read this file.
 -- Assumes nothing.
-use mathlib.Core.Path.{_≡_, refl, sym}
-use mathlib.Core.Bool.{Bool, true, false, cond}
+use mathlib.Core.Path.{_≡_, sym}
+use mathlib.Core.Bool.{true, false, cond}
 use mathlib.Core.List.{List}
 use Prim.Native.Nat.{ℕ}
 use borrow.Author.Tests.{eqb-true, eq-eqb, ne-eqb}
 use lib.Dec.{eqb}
 use lib.ListN.{length}
 use Rattle.apportionment.specs.Refusals.{accepted, lineIllFormed}
+use Rattle.apportionment.specs.inner.Tests.{either-way}
 use Rattle.fields.specs.Parts.{placeOf}
 use Rattle.fields.specs.Grammar.{lineFeed}
 use Rattle.lines.specs.Lines.{nameAt, numberAt, isStateLine, usedIn, stateRefusal}
@@ -54,12 +55,10 @@ line-accepted first k sum s formed good = rw (state-by-parts, formed, eq-eqb _ a
 -- For a caller: its refusal is the line's, and where that is none, what it hands on is as read.
 pub line-refusal : (first : List ℕ) (k sum : ℕ) (s : List ℕ) → stateLineOf first k sum s .refusal ≡ stateRefusal first k sum s
 unfolding stateLineOf lineRead lineRefused
-line-refusal first k sum s = by-test (eqb (stateRefusal first k sum s) accepted) refl
-  where
-    by-test : (t : Bool) → eqb (stateRefusal first k sum s) accepted ≡ t
-        → (cond t (lineRead s) (lineRefused (stateRefusal first k sum s))) .refusal ≡ stateRefusal first k sum s
-    by-test true here = sym (eqb-true (stateRefusal first k sum s) accepted here)
-    by-test false here = refl
+line-refusal first k sum s =
+    either-way (eqb (stateRefusal first k sum s) accepted)
+    (λ good. rw good (sym (eqb-true (stateRefusal first k sum s) accepted good)))
+    (λ bad. rw bad)
 
 pub line-read : (first : List ℕ) (k sum : ℕ) (s : List ℕ) → stateRefusal first k sum s ≡ accepted
     → stateLineOf first k sum s ≡ lineRead s

@@ -2,13 +2,14 @@
 -- number is theirs. What reading gives does not speak of them: a reader who only wants the grammar need not read this file.
 -- Assumes nothing.
 use mathlib.Core.Path.{_≡_, refl, sym, _∙_}
-use mathlib.Core.Bool.{Bool, true, false, cond, _&&_, _||_, true≢false}
+use mathlib.Core.Bool.{and-true, Bool, true, false, cond, _&&_, _||_, true≢false}
 use mathlib.Core.List.{List, [], _∷_}
 use Prim.Native.Nat.{ℕ, zero, suc, _+_, _*_, _%_, _<_, _≤_}
 use native.Mathlib.Omega.{arith}
-use borrow.Author.Tests.{eqb-false, eq-eqb, ne-eqb}
+use borrow.Author.Tests.{eq-eqb, ne-eqb}
 use lib.Dec.{eqb, leb}
 use lib.ListN.{length, getD, take, drop, drop-of-length-le}
+use Rattle.apportionment.specs.inner.Tests.{either-way}
 use Rattle.fields.specs.Parts.{placeOf, before, allBetween}
 use Rattle.fields.specs.inner.Parts.{drop-step}
 use Rattle.fields.specs.Grammar.{comma, fieldOf}
@@ -72,13 +73,9 @@ field-is-all plain h s i past = rw (drop-of-length-le s past)
 end-from : (i : ℕ) (plain : Bool) (h : ℕ) (s : List ℕ) → fieldFrom i plain h s .end ≡ i + placeOf comma s
 unfolding fieldFrom placeOf
 end-from i plain h [] = omega arith
-end-from i plain h (x ∷ s) = by-test (eqb x comma) (end-from (i + 1) (plainAfter plain x) (printAfter h x) s)
-  where
-    by-test : (t : Bool) → fieldFrom (i + 1) (plainAfter plain x) (printAfter h x) s .end ≡ i + 1 + placeOf comma s
-        → (cond t (record { end = i; plain = plain; print = h }) (fieldFrom (i + 1) (plainAfter plain x) (printAfter h x) s)) .end
-        ≡ i + cond t 0 (suc (placeOf comma s))
-    by-test true later = omega arith
-    by-test false later = omega (arith, later)
+end-from i plain h (x ∷ s) =
+    let later = end-from (i + 1) (plainAfter plain x) (printAfter h x) s in
+    either-way (eqb x comma) (λ here. rw here (omega arith)) (λ other. rw other (omega (arith, later)))
 
 pub field-end : (line : List ℕ) → fieldRead line .end ≡ placeOf comma line
 unfolding fieldRead
@@ -88,24 +85,15 @@ field-end line = omega (arith, end-from 0 true 0 line)
 print-from : (i : ℕ) (plain : Bool) (h : ℕ) (s : List ℕ) → fieldFrom i plain h s .print ≡ fingerprintFrom h (fieldOf s)
 unfolding fieldFrom fingerprintFrom fieldOf before placeOf
 print-from i plain h [] = refl
-print-from i plain h (x ∷ s) = by-test (eqb x comma) (print-from (i + 1) (plainAfter plain x) (printAfter h x) s)
-  where
-    by-test : (t : Bool)
-        → fieldFrom (i + 1) (plainAfter plain x) (printAfter h x) s .print ≡ fingerprintFrom (printAfter h x) (take (placeOf comma s) s)
-        → (cond t (record { end = i; plain = plain; print = h }) (fieldFrom (i + 1) (plainAfter plain x) (printAfter h x) s)) .print
-        ≡ fingerprintFrom h (take (cond t 0 (suc (placeOf comma s))) (x ∷ s))
-    by-test true later = refl
-    by-test false later = later
+print-from i plain h (x ∷ s) =
+    let later = print-from (i + 1) (plainAfter plain x) (printAfter h x) s in
+    either-way (eqb x comma) (λ here. rw here) (λ other. rw other later)
 
 pub field-print : (line : List ℕ) → fieldRead line .print ≡ fingerprintOf (fieldOf line)
 unfolding fieldRead fingerprintOf
 field-print line = print-from 0 true 0 line
 
 -- .. and it is plain where each of its bytes may stand in a name.
-and-true : (p : Bool) → p ≡ (p && true)
-and-true true = refl
-and-true false = refl
-
 three-tests : (p a b r : Bool) → (((p && a) && b) && r) ≡ (p && cond a (cond b r false) false)
 three-tests true true true r = refl
 three-tests true true false r = refl
@@ -115,16 +103,12 @@ three-tests false a b r = refl
 plain-from : (i : ℕ) (plain : Bool) (h : ℕ) (s : List ℕ)
     → fieldFrom i plain h s .plain ≡ (plain && allBetween 32 126 (fieldOf s))
 unfolding fieldFrom allBetween fieldOf before placeOf
-plain-from i plain h [] = and-true plain
-plain-from i plain h (x ∷ s) = by-test (eqb x comma) (plain-from (i + 1) (plainAfter plain x) (printAfter h x) s)
-  where
-    by-test : (t : Bool)
-        → fieldFrom (i + 1) (plainAfter plain x) (printAfter h x) s .plain
-        ≡ (plainAfter plain x && allBetween 32 126 (take (placeOf comma s) s))
-        → (cond t (record { end = i; plain = plain; print = h }) (fieldFrom (i + 1) (plainAfter plain x) (printAfter h x) s)) .plain
-        ≡ (plain && allBetween 32 126 (take (cond t 0 (suc (placeOf comma s))) (x ∷ s)))
-    by-test true later = and-true plain
-    by-test false later = later ∙ three-tests plain (leb 32 x) (leb x 126) (allBetween 32 126 (take (placeOf comma s) s))
+plain-from i plain h [] = sym (and-true plain)
+plain-from i plain h (x ∷ s) =
+    let later = plain-from (i + 1) (plainAfter plain x) (printAfter h x) s in
+    either-way (eqb x comma)
+    (λ here. rw here (sym (and-true plain)))
+    (λ other. rw other (later ∙ three-tests plain (leb 32 x) (leb x 126) (allBetween 32 126 (take (placeOf comma s) s))))
 
 pub field-plain : (line : List ℕ) → fieldRead line .plain ≡ allBetween 32 126 (fieldOf line)
 unfolding fieldRead
@@ -152,10 +136,6 @@ holds-end false x ys i past = rw (drop-of-length-le ys past)
 pub holds-not : (x : ℕ) (ys : List ℕ) → holds x ys ≡ false → (i : ℕ) → i < length ys → getD ys i 0 ≡ x → ⊥
 unfolding holds
 holds-not x [] none i inside equal = omega arith
-holds-not x (y ∷ ys) none i inside equal = by-test (eqb y x) i refl none inside equal (holds-not x ys)
-  where
-    by-test : (t : Bool) (i : ℕ) → eqb y x ≡ t → (t || holds x ys) ≡ false → i < length (y ∷ ys) → getD (y ∷ ys) i 0 ≡ x
-        → (holds x ys ≡ false → (j : ℕ) → j < length ys → getD ys j 0 ≡ x → ⊥) → ⊥
-    by-test true i here none inside equal later = true≢false none
-    by-test false zero here none inside equal later = eqb-false y x here equal
-    by-test false (suc i) here none inside equal later = later none i (omega arith) equal
+holds-not x (y ∷ ys) none zero inside equal = true≢false (rw (eq-eqb y x equal) at none)
+holds-not x (y ∷ ys) none (suc i) inside equal =
+    either-way (eqb y x) (λ here. true≢false (rw here at none)) (λ other. holds-not x ys (rw other at none) i (omega arith) equal)

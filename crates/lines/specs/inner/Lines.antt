@@ -1,8 +1,8 @@
 -- What holds of a line of the register that is not refused, and the refusals of a head and of a state's line by the parts that the code
 -- has.
 -- Assumes nothing.
-use mathlib.Core.Path.{_≡_, refl, sym, _∙_}
-use mathlib.Core.Bool.{Bool, true, false, cond, not}
+use mathlib.Core.Path.{_≡_, refl}
+use mathlib.Core.Bool.{_&&_, Bool, true, false, cond, not}
 use mathlib.Core.List.{List, [], _∷_}
 use Prim.Native.Nat.{ℕ, _+_, _≤_}
 use native.Mathlib.Omega.{arith}
@@ -12,17 +12,30 @@ use Rattle.apportionment.specs.Limits.{stateLimit, houseLimit, sumLimit}
 use Rattle.apportionment.specs.Refusals.{accepted, lineIllFormed, numberOutOfLimits, methodUnknown, nameUsed, runningSumTooLarge}
 use Rattle.apportionment.specs.Checks.{outside, firstRefusal}
 use Rattle.apportionment.specs.inner.Checks.{inside-limits, check-passed}
+use Rattle.apportionment.specs.inner.Tests.{either-way}
 use Rattle.apportionment.specs.Lists.{sameList}
 use Rattle.apportionment.specs.Text.{bytesOf}
-use Rattle.apportionment.specs.declared.Method.{Method}
 use Rattle.fields.specs.declared.Named.{Named}
-use Rattle.fields.specs.declared.Named.the-variants.{Known, Unknown}
 use Rattle.fields.specs.inner.Tests.{both}
 use Rattle.fields.specs.Grammar.{ended, lineOf, fieldOf, isNumber, valueOf, isName, isMethodField, methodNamed}
-use Rattle.lines.specs.Lines.{methodField, houseField, countField, headFormed, isHead, isUnknown, methodIn}
+use Rattle.lines.specs.Lines.{methodField, houseField, countField, headFormed, isHead, isUnknown}
 use Rattle.lines.specs.Lines.{headRefusal, headRefused, headRead, headOf}
 use Rattle.lines.specs.Lines.{nameAt, numberField, numberAt, pairFormed, isPair, usedIn, isStateLine, isClosingLine, stateRefusal}
 use Rattle.lines.specs.declared.head.Head.{Head}
+
+-- ---- tests made at once are tests made one after the other
+
+pub three-at-once : (t u v : Bool) → ((t && u) && v) ≡ cond t (cond u v false) false
+three-at-once true true v = refl
+three-at-once true false v = refl
+three-at-once false u v = refl
+
+pub five-at-once : (t u v w x : Bool) → ((((t && u) && v) && w) && x) ≡ cond t (cond u (cond v (cond w x false) false) false) false
+five-at-once true true true true x = refl
+five-at-once true true true false x = refl
+five-at-once true true false w x = refl
+five-at-once true false v w x = refl
+five-at-once false u v w x = refl
 
 -- ---- the head
 
@@ -85,13 +98,10 @@ accepted-sound s good =
 
 pub head-sound : (s : List ℕ) → headOf s .refusal ≡ accepted → HeadSound (headOf s)
 unfolding headOf headRefused
-head-sound s = by-refusal (eqb (headRefusal s) accepted) refl
-  where
-    by-refusal : (t : Bool) → eqb (headRefusal s) accepted ≡ t
-        → (cond t (readOf s) (headRefused (headRefusal s))) .refusal ≡ accepted
-        → HeadSound (cond t (readOf s) (headRefused (headRefusal s)))
-    by-refusal true here good = accepted-sound s (eqb-true (headRefusal s) accepted here)
-    by-refusal false here good = absurd (eqb-false (headRefusal s) accepted here good)
+head-sound s good =
+    either-way (eqb (headRefusal s) accepted)
+    (λ here. rw here (accepted-sound s (eqb-true (headRefusal s) accepted here)))
+    (λ here. absurd (eqb-false (headRefusal s) accepted here (rw here at good)))
 
 -- ---- a line of two fields: a state's, or the closing one
 
@@ -118,18 +128,13 @@ entryRefusal used sum p = firstRefusal (
 pub state-by-parts : (first : List ℕ) (k sum : ℕ) (s : List ℕ)
     → stateRefusal first k sum s ≡ cond (isStateLine s) (entryRefusal (usedIn k first (nameAt s)) sum (numberAt s)) lineIllFormed
 unfolding stateRefusal entryRefusal firstRefusal
-state-by-parts first k sum s = by-test (isStateLine s) _
-  where
-    by-test : (t : Bool) (later : ℕ) → cond (not t) lineIllFormed later ≡ cond t later lineIllFormed
-    by-test true later = refl
-    by-test false later = refl
+state-by-parts first k sum s = either-way (isStateLine s) (λ formed. rw formed) (λ ill. rw ill)
 
 -- A state's line that is not refused.
 pub record StateSound (first : List ℕ) (k sum : ℕ) (s : List ℕ) : Type 0 where
   pub named : isName (nameAt s) ≡ true
   pub numbered : isNumber (numberField s) ≡ true
   pub peopled : 1 ≤ numberAt s
-  pub fresh : usedIn k first (nameAt s) ≡ false
   pub fits : sum + numberAt s ≤ sumLimit
 
 pub state-sound : (first : List ℕ) (k sum : ℕ) (s : List ℕ) → stateRefusal first k sum s ≡ accepted → StateSound first k sum s
@@ -144,6 +149,5 @@ state-sound first k sum s good =
       named = parts .0;
       numbered = parts .1;
       peopled = inside-limits sumLimit (numberAt s) (number .0) .0;
-      fresh = name .0;
       fits = ltb-false sumLimit (sum + numberAt s) (total .0);
     }

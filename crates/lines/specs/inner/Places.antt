@@ -3,7 +3,7 @@
 -- What reading gives does not speak of them: a reader who only wants the grammar need not read this file.
 -- Assumes nothing.
 use mathlib.Core.Path.{_≡_, refl, sym, ap, _∙_}
-use mathlib.Core.Bool.{Bool, true, false, cond}
+use mathlib.Core.Bool.{Bool, true, false}
 use mathlib.Core.List.{List, [], _∷_}
 use Prim.Native.Nat.{ℕ, zero, suc, zero-le, suc-le-suc, _+_, _-_, _<_, _≤_}
 use native.Mathlib.Nat.{le-refl, le-trans}
@@ -15,6 +15,7 @@ use lib.Seq.{take-take, drop-drop, length-take-le, getD-take}
 use Rattle.apportionment.specs.Limits.{stateLimit}
 use Rattle.apportionment.specs.Lists.{sameList}
 use Rattle.apportionment.specs.inner.Lists.{same-list-equal}
+use Rattle.apportionment.specs.inner.Tests.{cond-both, either-way}
 use Rattle.fields.specs.Parts.{placeOf, before, after}
 use Rattle.fields.specs.Grammar.{lineFeed, comma, restOf, lineOf, lastByte, carriageReturn, withoutReturn, fieldOf}
 use Rattle.lines.specs.Lines.{nameAt, usedIn}
@@ -47,11 +48,9 @@ front-of-front {s} {t} {u} e f =
 
 without-return-is-front : (s : List ℕ) → FrontOf s (withoutReturn s)
 unfolding withoutReturn
-without-return-is-front s = by-test (eqb (lastByte s) carriageReturn)
-  where
-    by-test : (t : Bool) → FrontOf s (cond t (take (length s - 1) s) s)
-    by-test true = take-is-front (length s - 1) s
-    by-test false = all-is-front s
+without-return-is-front s =
+    cond-both (FrontOf s) (eqb (lastByte s) carriageReturn) (take (length s - 1) s) s
+    (λ _. take-is-front (length s - 1) s) (λ _. all-is-front s)
 
 pub name-is-front : (s : List ℕ) → FrontOf s (nameAt s)
 unfolding nameAt fieldOf lineOf before
@@ -139,11 +138,8 @@ kept-printed kept i below =
 
 -- Names of different fingerprints differ.
 pub other-fingerprint : (xs ys : List ℕ) → (fingerprintOf xs ≡ fingerprintOf ys → ⊥) → sameList xs ys ≡ false
-other-fingerprint xs ys differ = by-test (sameList xs ys) refl
-  where
-    by-test : (t : Bool) → sameList xs ys ≡ t → t ≡ false
-    by-test true same = absurd (differ (rw (same-list-equal xs ys same)))
-    by-test false same = refl
+other-fingerprint xs ys differ =
+    either-way (sameList xs ys) (λ same. absurd (differ (rw (same-list-equal xs ys same)))) (λ other. other)
 
 -- ---- a name used before, by the names of the lines one by one
 
@@ -151,11 +147,9 @@ pub used-on : (k : ℕ) (s name : List ℕ) (i : ℕ) → i < k → sameList (na
 unfolding usedIn nameOn
 used-on zero s name i below same = absurd (omega arith)
 used-on (suc k) s name zero below same = rw same
-used-on (suc k) s name (suc i) below same = rw (used-on k (restOf s) name i (omega arith) same) (either (sameList (nameAt s) name))
-  where
-    either : (t : Bool) → cond t true true ≡ true
-    either true = refl
-    either false = refl
+used-on (suc k) s name (suc i) below same =
+    rw (used-on k (restOf s) name i (omega arith) same)
+    (cond-both (λ (b : Bool). b ≡ true) (sameList (nameAt s) name) true true (λ _. refl) (λ _. refl))
 
 pub used-on-none : (k : ℕ) (s name : List ℕ) → ((i : ℕ) → i < k → sameList (nameOn i s) name ≡ false)
     → usedIn k s name ≡ false

@@ -1,7 +1,7 @@
 -- `listing::put_listing` meets its contract: the head, the states' lines and the totals, one after the other.
 -- Assumes nothing.
 use native.Mathlib.Omega.{arith}
-use mathlib.Core.Path.{sym, _∙_}
+use mathlib.Core.Path.{sym}
 use lib.Seq.{length-take-le}
 use Rattle.text.specs.inner.Writing.{wrote-on, wrote-then}
 use Rattle.problem.specs.inner.Total.{total-is-sum}

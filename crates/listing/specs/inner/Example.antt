@@ -10,7 +10,7 @@ use Rattle.apportionment.specs.Refusals.{accepted}
 use Rattle.apportionment.specs.Text.{bytesOf, decimal, decimalWith}
 use Rattle.apportionment.specs.Lists.{sum}
 use Rattle.apportionment.specs.Quantities.{less, atMost, distance, sizeOf, isBelow, nearestWhole, hundredthsOf, shownOf, hundredthsText}
-use Rattle.apportionment.specs.Quantities.{shownText, markOf, markText}
+use Rattle.apportionment.specs.Quantities.{shownText, departureText, markOf, markFor, markText}
 use Rattle.apportionment.specs.Leximin.{sizesOf, insert, largestFirst, listLess, moreAtFirst, sizeList, chosenBefore, withFirst}
 use Rattle.apportionment.specs.Leximin.{allotments, firstOf, firstOfAll, leximinFor}
 use Rattle.apportionment.specs.Checks.{within, outside, firstRefusal}
@@ -22,7 +22,7 @@ use Rattle.register.specs.inner.Examples.{example, exampleReading, exampleName,
 use Rattle.register.specs.declared.Reading.{Reading}
 use Rattle.apportionment.specs.Methods.{methodText}
 use Rattle.text.specs.Shared.{numbersText, totalLine, refusalLine}
-use Rattle.listing.specs.Listing.{headLine, departureText, stateLine, stateLines, seatsIn, listingIn, listingOf, refused}
+use Rattle.listing.specs.Listing.{headLine, stateLine, stateLines, seatsIn, listingIn, listingOf, refused}
 use Rattle.listing.specs.Listing.{allotRefusalIn, fittedOf, listedIn, listedOf, printedOf}
 use Rattle.listing.specs.inner.Rows.{same-listing}
 
@@ -39,8 +39,8 @@ exampleListing =
 -- What is read of the document's register, with the names of its states, comes to the document's listing ..
 listing-laid-out : listingIn exampleReading exampleName (seatsIn exampleReading) ≡ exampleListing
 unfolding listingIn numbersText headLine stateLines stateLine departureText totalLine seatsIn methodText decimal decimalWith sum less atMost
-    distance sizeOf isBelow nearestWhole hundredthsOf shownOf hundredthsText shownText markOf markText sizesOf insert largestFirst listLess
-    moreAtFirst sizeList chosenBefore withFirst allotments firstOf firstOfAll leximinFor seatsEveryState seatsOf
+    distance sizeOf isBelow nearestWhole hundredthsOf shownOf hundredthsText shownText markOf markFor markText sizesOf insert largestFirst
+    listLess moreAtFirst sizeList chosenBefore withFirst allotments firstOf firstOfAll leximinFor seatsEveryState seatsOf
 listing-laid-out = refl
 
 listing-is : listingOf example ≡ exampleListing

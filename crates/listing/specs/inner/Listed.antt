@@ -1,20 +1,20 @@
 -- What writing a listing comes to in each of its cases, and why every listing fits the array in which it is first written: what neither
 -- reading nor allotting refuses is within every limit.
 -- Assumes nothing.
-use mathlib.Core.Path.{_≡_, refl, sym, ap, _∙_}
+use mathlib.Core.Path.{_≡_, sym, ap, _∙_}
 use mathlib.Core.Bool.{Bool, true, false, cond}
 use mathlib.Core.List.{List, _++_}
 use Prim.Native.Nat.{ℕ, _+_, _<_, _≤_}
 use native.Mathlib.Omega.{arith}
-use borrow.Author.Tests.{eq-eqb, ne-eqb, le-leb}
+use borrow.Author.Tests.{eq-eqb, ne-eqb}
 use lib.Dec.{leb, eqb}
 use lib.ListN.{length, getD, take, drop}
-use lib.Seq.{getD-take, length-take-le}
+use lib.Seq.{length-take-le}
+use Rattle.apportionment.specs.inner.Tests.{either-way}
 use Rattle.apportionment.specs.Refusals.{accepted, bufferTooShort}
-use Rattle.apportionment.specs.Lists.{sum}
 use Rattle.apportionment.specs.inner.Lists.{entry-at-most-sum}
 use Rattle.apportionment.specs.Allotment.{seatsAfter}
-use Rattle.problem.specs.inner.Passed.{AllotPassed, allot-passed}
+use Rattle.problem.specs.inner.Passed.{Allottable, allot-passed}
 use Rattle.allot.specs.declared.Allotted.{Allotted}
 use Rattle.allot.specs.Allot.{allottedOf, AllotmentIs}
 use Rattle.departure.specs.inner.Answer.{InLimits}
@@ -43,7 +43,7 @@ module _ (s : List ℕ) (good : readingOf s .refusal ≡ accepted) (allotted : a
   counted : length (populationsIn (readingOf s)) ≡ readingOf s .states
   counted = length-take-le _ _ each-read
 
-  passed : AllotPassed (readingOf s .method) (readingOf s .house) (populationsIn (readingOf s)) (readingOf s .states)
+  passed : Allottable (readingOf s .method) (readingOf s .house) (populationsIn (readingOf s)) (readingOf s .states)
   unfolding allotRefusalIn
   passed = allot-passed _ _ _ _ allotted
 
@@ -55,7 +55,7 @@ module _ (s : List ℕ) (good : readingOf s .refusal ≡ accepted) (allotted : a
       → InLimits (getD (populationsIn (readingOf s)) i 0) (getD (seatsIn (readingOf s)) i 0) (readingOf s .total) (readingOf s .house)
   within i below =
       let so = sound .populations in
-      let some = passed .problem .peopled i (omega (arith, counted)) in
+      let some = passed .problem .states .peopled i (omega (arith, counted)) in
       let most = entry-at-most-sum (populationsIn (readingOf s)) i in
       record {
         some-total = omega (arith, so .summed);
@@ -128,15 +128,7 @@ fitted-or-not : (listing before : List ℕ)
     → copiedOut listing before
     ≡ cond (eqb (fittedOf listing (length before) .refusal) accepted) (listing ++ drop (length listing) before) before
 unfolding copiedOut fittedOf refused
-fitted-or-not listing before = by-room (leb (length listing) (length before))
-  where
-    by-room : (fits : Bool)
-        → cond fits (listing ++ drop (length listing) before) before
-        ≡ cond (eqb ((cond fits (record { refusal = accepted; line = 0; size = length listing }) (refused bufferTooShort 0)) .refusal) accepted)
-        (listing ++ drop (length listing) before)
-        before
-    by-room true = refl
-    by-room false = refl
+fitted-or-not listing before = either-way (leb (length listing) (length before)) (λ fits. rw fits) (λ longer. rw longer)
 
 pub handed-over : {s before : List ℕ} {r : Listed} {after : List ℕ} → readingOf s .refusal ≡ accepted
     → allotRefusalIn (readingOf s) ≡ accepted → HandedOver (listingOf s) before r after → ListingIs s before r after

@@ -1,6 +1,6 @@
 -- What the allotment program prints, told from writing a listing into a page that has room for every one: 31 is never given there.
 -- Assumes nothing.
-use mathlib.Core.Path.{_≡_, refl, sym, ap, _∙_}
+use mathlib.Core.Path.{_≡_, refl, ap, _∙_}
 use mathlib.Core.Bool.{Bool, true, false, cond}
 use mathlib.Core.List.{List, _++_}
 use Prim.Native.Nat.{ℕ, _+_, _^_, _<_, _≤_}
@@ -37,7 +37,8 @@ same-answer s room enough =
         (refused (readingOf s .refusal) (readingOf s .line))
         ≡ cond t (cond u (fittedOf (listingOf s) (length (listingOf s))) (refused (allotRefusalIn (readingOf s)) 0))
         (refused (readingOf s .refusal) (readingOf s .line))
-    by-tests true true good allotted = fits-exactly (listingOf s) room (omega (arith, listing-fits s (eqb-true _ _ good) (eqb-true _ _ allotted)))
+    by-tests true true good allotted =
+        fits-exactly (listingOf s) room (omega (arith, listing-fits s (eqb-true _ _ good) (eqb-true _ _ allotted)))
     by-tests true false good refusal = refl
     by-tests false u bad refusal = refl
 

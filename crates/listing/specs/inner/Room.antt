@@ -2,24 +2,22 @@
 -- so many is never refused 31.
 -- Assumes nothing.
 use mathlib.Core.Path.{_≡_, refl, sym, _∙_}
-use mathlib.Core.List.{List, _++_}
-use Prim.Native.Nat.{ℕ, zero, suc, _+_, _*_, _<_, _≤_}
+use mathlib.Core.List.{List}
+use Prim.Native.Nat.{ℕ, _+_, _*_, _<_, _≤_}
 use native.Mathlib.Omega.{arith}
-use lib.Dec.{eqb·suc-zero}
 use lib.ListN.{length, getD, length-append}
 use lib.Seq.{length-take-le}
 use Rattle.apportionment.specs.Limits.{houseLimit, sumLimit, stateLimit}
 use Rattle.apportionment.specs.Lists.{sum}
-use Rattle.apportionment.specs.Quantities.{sizeOf, markOf}
+use Rattle.apportionment.specs.Quantities.{markFor}
 use Rattle.apportionment.specs.declared.Method.{Method}
 use Rattle.register.specs.inner.Rows.{nameLimit}
 use Rattle.text.specs.inner.Bounds.{decimal-of-sum, decimal-of-house, decimal-of-states, mark-length, method-length, lines-length}
 use Rattle.text.specs.inner.Bounds.{numbers-length, total-line-length}
-use Rattle.text.specs.inner.ShownRoom.{shown-room}
+use Rattle.text.specs.inner.Departures.{departure-length}
 use Rattle.register.specs.declared.Reading.{Reading}
-use Rattle.departure.specs.inner.Answer.{InLimits}
-use Rattle.listing.specs.Listing.{headLine, departureText, stateLine, stateLines, populationsIn, listingIn}
-use Rattle.listing.specs.inner.Rows.{Rows}
+use Rattle.departure.specs.inner.Answer.{InLimits, AllInLimits}
+use Rattle.listing.specs.Listing.{headLine, stateLine, stateLines, populationsIn, listingIn}
 
 -- The room that each kind of line takes: its fields at their longest, its commas and its line end.
 --   head: the word and the method 10 each, the house 4, the number of states 3;
@@ -45,14 +43,6 @@ unfolding headLine
 head-line-length m H n house states =
     simp length-append (omega (arith, method-length m, numbers-length H n (decimal-of-house H house) (decimal-of-states n states)))
 
--- The departure and the mark, with the comma between them.
-departure-length : (p a P H : ℕ) → 0 < P → p ≤ P → H ≤ houseLimit → length (departureText p a P H) ≤ 14
-unfolding departureText
-departure-length p zero P H some within limited = omega arith
-departure-length p (suc a) P H some within limited =
-    rw (eqb·suc-zero a, length-append, length-append)
-    (omega (arith, shown-room p (suc a) P H (omega arith) some within limited, mark-length (markOf (sizeOf p (suc a) P H))))
-
 state-line-length : (name : List ℕ) {p a P H : ℕ} → length name ≤ nameLimit → InLimits p a P H → length (stateLine name p a P H) ≤ lineRoom
 unfolding stateLine
 state-line-length name {p} {a} {P} {H} short fit =
@@ -60,7 +50,8 @@ state-line-length name {p} {a} {P} {H} short fit =
     (omega (
       arith,
       numbers-length p a (decimal-of-sum p (omega arith)) (decimal-of-house a (omega arith)),
-      departure-length p a P H (fit .some-total) (fit .people-within) (fit .house-limited),
+      departure-length fit,
+      mark-length (markFor p a P H),
     ))
 
 state-lines-length : (name : ℕ → List ℕ) (ps seats : List ℕ) (P H k : ℕ)
@@ -86,7 +77,7 @@ pub record AllListable (r : Reading) (name : ℕ → List ℕ) (seats : List ℕ
   pub each-in-limits : (i : ℕ) → i < r .states → InLimits (getD (populationsIn r) i 0) (getD seats i 0) (r .total) (r .house)
 
 pub listable-rows : {r : Reading} {name : ℕ → List ℕ} {seats : List ℕ} → AllListable r name seats
-    → Rows (populationsIn r) seats (r .total) (r .house)
+    → AllInLimits (populationsIn r) seats (r .total) (r .house)
 listable-rows {r} fit =
     let counted : length (populationsIn r) ≡ r .states = length-take-le (r .states) (r .populations) (fit .each-read) in
     record { paired = fit .each-seated ∙ sym counted; each = λ i below. fit .each-in-limits i (omega arith) }

@@ -2,22 +2,16 @@
 -- Assumes nothing.
 use mathlib.Core.Path.{_≡_, refl}
 use mathlib.Core.List.{List, _++_}
-use Prim.Native.Nat.{ℕ, zero, suc, _+_, _<_, _≤_}
+use Prim.Native.Nat.{ℕ, zero, suc, _+_, _<_}
 use native.Mathlib.Numerals.{add-one}
 use native.Mathlib.Omega.{arith}
-use lib.ListN.{length, getD}
+use lib.ListN.{getD}
 use Rattle.apportionment.specs.Refusals.{accepted}
 use Rattle.register.specs.Register.{readingOf}
 use Rattle.register.specs.Names.{rowsOf, nameInRow, nameOf}
 use Rattle.register.specs.inner.Sound.{name-there}
 use Rattle.register.specs.declared.Reading.{Reading}
-use Rattle.departure.specs.inner.Answer.{InLimits}
 use Rattle.listing.specs.Listing.{stateLine, stateLines, populationsIn, seatsIn, listingIn, listingOf}
-
--- A seat count for each population, and no departure that is refused.
-pub record Rows (ps seats : List ℕ) (P H : ℕ) : Type 0 where
-  pub paired : length seats ≡ length ps
-  pub each : (i : ℕ) → i < length ps → InLimits (getD ps i 0) (getD seats i 0) P H
 
 -- One state more.
 pub state-lines-more : (name : ℕ → List ℕ) (ps seats : List ℕ) (P H k : ℕ)

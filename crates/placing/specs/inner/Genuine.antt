@@ -126,7 +126,7 @@ module _ {ps : List ℕ} {P H : ℕ} (problem : Problem ps P H) (fits : length p
   lex-states = lex-standing .states
 
   -- No state has more seats than the house: placing ends at the house, and withdrawing begins at nearest seats.
-  lex-within-house : (i : ℕ) → getD lex i 0 ≤ H
+  pub lex-within-house : (i : ℕ) → getD lex i 0 ≤ H
   unfolding gap distance totalAfter lexMoved
   lex-within-house i =
       either-way (ltb (startTotal ps H) H)

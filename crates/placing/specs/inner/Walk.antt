@@ -34,7 +34,7 @@ same-equality x y u v to from =
     (λ e. rw e (ne-eqb x y (λ q. eqb-false u v e (to q))))
 
 -- A placing's own populations are those that it was opened with.
-own-people : (ps : List ℕ) (H m : ℕ) → peopleOf (placingAt ps H m) ≡ ps
+pub own-people : (ps : List ℕ) (H m : ℕ) → peopleOf (placingAt ps H m) ≡ ps
 unfolding placingAt peopleOf
 own-people ps H m = take-padded ps
 

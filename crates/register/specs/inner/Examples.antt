@@ -14,7 +14,7 @@ use Rattle.apportionment.specs.declared.Method.the-variants.{Leximin}
 use Rattle.fields.specs.Parts.{placeOf, has, before, after, allBetween}
 use Rattle.apportionment.specs.Methods.{methodText}
 use Rattle.fields.specs.Grammar.{lineFeed, ended, lastByte, withoutReturn, lineOf, restOf, fieldOf, fieldsAfter, isNumber, valueFrom}
-use Rattle.fields.specs.Grammar.{valueOf, isName, isMethodField, methodNamed}
+use Rattle.fields.specs.Grammar.{valueOf, isName, isMethodField, firstNamed, methodNamed}
 use Rattle.lines.specs.Lines.{methodField, houseField, countField, headFormed, isHead, headRefused, headOf, nameAt, numberField, numberAt}
 use Rattle.lines.specs.Lines.{pairFormed, isPair, isStateLine, isClosingLine, usedIn, stateRefusal, closingRefusal}
 use Rattle.lines.specs.Lines.{isUnknown, methodIn, headRefusal, headRead}
@@ -66,10 +66,11 @@ pub examples-hold :
     × (nameOf example 4 ≡ bytesOf "E")
     × (readingOf [] ≡ refused lineIllFormed 1)
     × (readingOf zeroPopulation ≡ refused numberOutOfLimits 3)
-unfolding sameList within outside firstRefusal placeOf has before after allBetween ended lastByte withoutReturn lineOf restOf fieldOf fieldsAfter
-    isNumber valueFrom valueOf isName isMethodField methodText methodNamed methodField houseField countField headFormed isHead
-    isUnknown methodIn headRefusal headRefused headRead headOf nameAt numberField numberAt pairFormed isPair isStateLine isClosingLine usedIn stateRefusal
-    closingRefusal noPopulations refused accepts endOf closingOf statesFrom statesOf linesOf readingOf linesAfter nameRefusalIn nameRefusalOf nameOf
+unfolding sameList within outside firstRefusal placeOf has before after allBetween ended lastByte withoutReturn lineOf restOf fieldOf
+    fieldsAfter isNumber valueFrom valueOf isName isMethodField methodText firstNamed methodNamed methodField houseField countField
+    headFormed isHead isUnknown methodIn headRefusal headRefused headRead headOf nameAt numberField numberAt pairFormed isPair
+    isStateLine isClosingLine usedIn stateRefusal closingRefusal noPopulations refused accepts endOf closingOf statesFrom statesOf
+    linesOf readingOf linesAfter nameRefusalIn nameRefusalOf nameOf
 examples-hold = (refl, refl, refl, refl)
 
 -- The names of the example's states.

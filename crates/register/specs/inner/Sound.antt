@@ -6,13 +6,14 @@ use mathlib.Core.List.{List, [], _∷_, _++_}
 use Prim.Native.Nat.{ℕ, zero, suc, _+_, _<_, _≤_}
 use native.Mathlib.Numerals.{add-one}
 use native.Mathlib.Omega.{arith}
-use borrow.Author.Tests.{eqb-true, eqb-false, ltb-true, ltb-false, eq-eqb, ne-eqb, le-leb, lt-ltb}
+use borrow.Author.Tests.{eqb-true, eqb-false, ltb-true, ltb-false, eq-eqb, lt-ltb}
 use lib.Dec.{ltb, eqb}
 use lib.ListN.{length, getD, set, take, length-set, getD-replicate, List·getD-eq-default}
-use lib.Seq.{getD-set-same, getD-set-other, getD-take, take-suc-set, length-take-le}
+use lib.Seq.{getD-set-same, getD-set-other, take-suc-set}
 use Rattle.apportionment.specs.Limits.{stateLimit, houseLimit, sumLimit, registerLimit}
-use Rattle.apportionment.specs.Refusals.{accepted, lineIllFormed, registerTooLong}
+use Rattle.apportionment.specs.Refusals.{accepted, lineIllFormed}
 use Rattle.apportionment.specs.Lists.{sum}
+use Rattle.apportionment.specs.inner.Tests.{either-way}
 use Rattle.fields.specs.Grammar.{restOf, isName}
 use Rattle.lines.specs.inner.Lines.{head-sound, state-sound}
 use Rattle.lines.specs.Lines.{headOf, nameAt, numberAt, stateRefusal, closingRefusal}
@@ -34,11 +35,10 @@ pub record SoFar (k total : ℕ) (populations : List ℕ) : Type 0 where
 
 no-population : (i : ℕ) → getD noPopulations i 0 ≡ 0
 unfolding noPopulations
-no-population i = by-test (ltb i stateLimit) refl
-  where
-    by-test : (t : Bool) → ltb i stateLimit ≡ t → getD noPopulations i 0 ≡ 0
-    by-test true inside = getD-replicate stateLimit i 0 0 (ltb-true i stateLimit inside)
-    by-test false outside = List·getD-eq-default noPopulations 0 (ltb-false i stateLimit outside)
+no-population i =
+    either-way (ltb i stateLimit)
+    (λ inside. getD-replicate stateLimit i 0 0 (ltb-true i stateLimit inside))
+    (λ outside. List·getD-eq-default noPopulations 0 (ltb-false i stateLimit outside))
 
 so-far-none : SoFar 0 0 noPopulations
 unfolding noPopulations sum
@@ -104,14 +104,10 @@ module _ (head : Head) (first : List ℕ) (left k total : ℕ) (populations s : 
     (good : statesFrom head first (suc left) k total populations s .refusal ≡ accepted) where
   line-accepted : stateRefusal first k total s ≡ accepted
   unfolding statesFrom refused
-  line-accepted = by-test (eqb (stateRefusal first k total s) accepted) refl good
-    where
-      by-test : (t : Bool) → eqb (stateRefusal first k total s) accepted ≡ t
-          → (cond t (statesFrom head first left (k + 1) (total + numberAt s) (set populations k (numberAt s)) (restOf s))
-          (refused (stateRefusal first k total s) (k + 2))) .refusal ≡ accepted
-          → stateRefusal first k total s ≡ accepted
-      by-test true here rest = eqb-true (stateRefusal first k total s) accepted here
-      by-test false here rest = rest
+  line-accepted =
+      either-way (eqb (stateRefusal first k total s) accepted)
+      (λ here. eqb-true (stateRefusal first k total s) accepted here)
+      (λ here. rw here at good)
 
   rest-is : statesFrom head first (suc left) k total populations s
       ≡ statesFrom head first left (k + 1) (total + numberAt s) (set populations k (numberAt s)) (restOf s)
@@ -139,21 +135,15 @@ states-accepted head first (suc left) k total populations s few all so good =
 module _ (s : List ℕ) (good : readingOf s .refusal ≡ accepted) where
   short-enough : ltb registerLimit (length s) ≡ false
   unfolding readingOf refused
-  short-enough = by-test (ltb registerLimit (length s)) good
-    where
-      by-test : (t : Bool) → (cond t (refused registerTooLong 0) (linesOf s)) .refusal ≡ accepted → t ≡ false
-      by-test true bad = absurd (omega arith)
-      by-test false fine = refl
+  short-enough =
+      either-way (ltb registerLimit (length s)) (λ long. absurd (omega (arith, rw long at good))) (λ fine. fine)
 
   head-accepted : headOf s .refusal ≡ accepted
   unfolding readingOf linesOf refused
-  head-accepted = by-test (eqb (headOf s .refusal) accepted) refl (rw short-enough at good)
-    where
-      by-test : (t : Bool) → eqb (headOf s .refusal) accepted ≡ t
-          → (cond t (statesOf (headOf s) (restOf s)) (refused (headOf s .refusal) 1)) .refusal ≡ accepted
-          → headOf s .refusal ≡ accepted
-      by-test true here fine = eqb-true (headOf s .refusal) accepted here
-      by-test false here fine = fine
+  head-accepted =
+      either-way (eqb (headOf s .refusal) accepted)
+      (λ here. eqb-true (headOf s .refusal) accepted here)
+      (λ here. rw (short-enough, here) at good)
 
   reading-is : readingOf s ≡ statesFrom (headOf s) (restOf s) (headOf s .states) 0 0 noPopulations (restOf s)
   unfolding readingOf linesOf statesOf

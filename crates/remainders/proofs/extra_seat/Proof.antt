@@ -2,7 +2,7 @@
 -- Assumes nothing.
 use native.Mathlib.Omega.{arith}
 use borrow.Author.Tests.{lt-ltb, le-ltb, eq-eqb, ne-eqb}
-use Rattle.remainders.specs.inner.Bar.{extraBy}
+use Rattle.remainders.specs.inner.Serving.{extraBy}
 use Rattle.remainders.proofs.extra_seat.Statement.{statement}
 use Rattle.remainders.proofs.extra_seat.Tie as tie
 

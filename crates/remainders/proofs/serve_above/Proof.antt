@@ -7,7 +7,7 @@ use Prim.Native.Nat.{ℕ, _-_, _≤_}
 use native.Mathlib.Omega.{arith}
 use lib.ListN.{length, getD}
 use borrow.Author.Needs.{needs}
-use Rattle.remainders.specs.inner.Bar.{at-most-one-served}
+use Rattle.remainders.specs.inner.Serving.{at-most-one-served}
 use Rattle.remainders.specs.inner.Seats.{servedFromAt, served-from-here, serving-from-starts}
 use Rattle.remainders.proofs.serve_above.Statement.{statement}
 use Rattle.remainders.proofs.serve_above.Tie as tie

@@ -7,7 +7,7 @@ use Prim.Native.Nat.{ℕ, _-_, _≤_}
 use native.Mathlib.Omega.{arith}
 use lib.ListN.{length, getD}
 use borrow.Author.Needs.{needs}
-use Rattle.remainders.specs.inner.Bar.{extraBy, spareAfter, spareAt, spare-one-more, at-most-one-served}
+use Rattle.remainders.specs.inner.Serving.{extraBy, spareAfter, spareAt, spare-one-more, at-most-one-served}
 use Rattle.remainders.specs.inner.Seats.{servedAt}
 use Rattle.remainders.proofs.serve_spare.Statement.{statement}
 use Rattle.remainders.proofs.serve_spare.Tie as tie

@@ -3,7 +3,7 @@
 use native.Mathlib.Omega.{arith}
 use borrow.Author.Tests.{eq-eqb, ne-eqb}
 use borrow.Author.Needs.{needs}
-use Rattle.remainders.specs.inner.Bar.{spareAfter}
+use Rattle.remainders.specs.inner.Serving.{spareAfter}
 use Rattle.remainders.proofs.spare_after.Statement.{statement}
 use Rattle.remainders.proofs.spare_after.Tie as tie
 

@@ -12,8 +12,10 @@ use Rattle.apportionment.specs.Remainders.{wholePart, seatsLeft, remainderSeats
 use Rattle.apportionment.specs.inner.Lists.{listOf-places, length-listOf, sum-listOf-none, sum-listOf-more, sum-listOf-both, count-none}
 use Rattle.apportionment.specs.inner.Problem.{Problem}
 use Rattle.remainders.specs.inner.WholeParts.{wholeParts, whole-parts-within, left-within-states}
-use Rattle.remainders.specs.inner.Precedence.{precedenceAt, precedencesOf, extraIn, reaches}
-use Rattle.remainders.specs.inner.Bar.{reaching, Bar, bar-exists, spareAt, spareFor, spare-is, one-more-served, served-by-rank}
+use Rattle.bar.specs.inner.Reaching.{reaches}
+use Rattle.remainders.specs.inner.Precedence.{precedenceAt, precedencesOf, extraIn}
+use Rattle.bar.specs.inner.Reaching.{reaching, Bar, bar-exists}
+use Rattle.remainders.specs.inner.Serving.{spareAt, spareFor, spare-is, one-more-served, served-by-rank}
 use Rattle.remainders.specs.inner.Seats.{parts-are-allotted}
 
 -- ---- as many seats go out as are left

@@ -1,12 +1,12 @@
 -- The precedence of a state is the number by which the seats that are left are served, the larger first; equal ones go in register order.
 -- What the method says of the order of states is told once, by `precedence-decides`: another order is another precedence.
 -- Assumes nothing.
-use mathlib.Core.Path.{_≡_, refl, sym, _∙_}
+use mathlib.Core.Path.{_≡_, refl, sym}
 use mathlib.Core.Bool.{Bool, true, false, cond}
 use mathlib.Core.List.{List}
 use Prim.Native.Nat.{ℕ, suc, _+_, _-_, _*_, _/_, _%_, _≤_, _<_}
 use native.Mathlib.Omega.{arith}
-use native.Mathlib.Nat.{zero-add, le-refl, mod-lt, suc-mul, mul-le-mul-right}
+use native.Mathlib.Nat.{le-refl, mod-lt, suc-mul, mul-le-mul-right}
 use lib.Dec.{ltb, leb}
 use lib.ListN.{length, getD}
 use mir.Syntax.{w64}
@@ -18,7 +18,8 @@ use Rattle.apportionment.specs.Remainders.{remainder, servedBefore, rank}
 use Rattle.apportionment.specs.inner.Tests.{either-way}
 use Rattle.apportionment.specs.inner.Problem.{States, Problem, sum-above-zero, entry-at-most-total}
 use Rattle.apportionment.specs.inner.MachineWords.{product-fits}
-use Rattle.apportionment.specs.inner.Lists.{length-listOf, getD-listOf, count-one-more, count-agrees, count-splits}
+use Rattle.apportionment.specs.inner.Lists.{length-listOf, getD-listOf, count-agrees, count-splits}
+use Rattle.bar.specs.inner.Reaching.{reaches}
 use Rattle.remainders.specs.inner.WholeParts.{share-fits}
 
 -- What a remainder counts in a precedence: more than any population.
@@ -145,21 +146,6 @@ rank-is {ps} k H i hi =
     (λ (j : ℕ) (hj : j < length ps). precedence-decides k H i j hi hj))
 
 -- ---- a rank is two counts of plain comparisons
-
--- Place j has a precedence of `least` or more.
-unfoldable pub reaches : (xs : List ℕ) (least j : ℕ) → Bool
-reaches xs least j = leb least (getD xs j 0)
-
--- One place more is counted if it reaches.
-pub count-reached : (xs : List ℕ) (least j : ℕ) → least ≤ getD xs j 0
-    → countBelow (reaches xs least) (j + 1) ≡ 1 + countBelow (reaches xs least) j
-unfolding reaches
-count-reached xs least j h = count-one-more (reaches xs least) j ∙ simp (le-leb least (getD xs j 0) h)
-
-pub count-passed-by : (xs : List ℕ) (least j : ℕ) → getD xs j 0 < least
-    → countBelow (reaches xs least) (j + 1) ≡ countBelow (reaches xs least) j
-unfolding reaches
-count-passed-by xs least j h = count-one-more (reaches xs least) j ∙ simp (lt-leb least (getD xs j 0) h, zero-add)
 
 -- An earlier state is served before if its precedence is as high, a later one only if it is higher.
 precedes-reaches : (a x : ℕ) (early : Bool) → cond (ltb a x) true (cond (ltb x a) false early) ≡ cond early (leb a x) (leb (a + 1) x)

@@ -17,10 +17,11 @@ use Rattle.apportionment.specs.inner.Tests.{either-way}
 use Rattle.apportionment.specs.inner.Problem.{States, Problem}
 use Rattle.remainders.specs.inner.WholeParts.{wholeParts, whole-parts-within, left-within-states}
 use Rattle.remainders.specs.inner.Precedence.{precedenceAt, precedencesOf, extraIn, rank-is, withExtraAt, withExtra}
-use Rattle.remainders.specs.inner.Bar.{all-reach, none-above, extraBy, spareAt, no-more-to-spare, served-by-rank}
-use Rattle.remainders.specs.inner.Search.{Searchable, BarFound}
+use Rattle.bar.specs.inner.Reaching.{all-reach, none-above}
+use Rattle.remainders.specs.inner.Serving.{extraBy, spareAt, no-more-to-spare, served-by-rank}
+use Rattle.bar.specs.inner.Search.{Searchable, BarFound}
 use Rattle.remainders.specs.declared.Parts.{Parts}
-use Rattle.remainders.specs.declared.Range.{Range}
+use Rattle.bar.specs.declared.Range.{Range}
 
 -- ---- the whole parts and the precedences
 

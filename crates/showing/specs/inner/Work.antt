@@ -1,18 +1,18 @@
 -- Laws of what Work.antt defines, which proofs cite.
 -- Assumes nothing.
-use mathlib.Core.Path.{_≡_, refl}
+use mathlib.Core.Path.{_≡_, refl, sym}
 use mathlib.Core.Bool.{Bool}
 use mathlib.Core.List.{List, _++_}
 use Prim.Native.Nat.{ℕ, zero, suc, _+_, _-_, _<_, _≤_}
 use native.Mathlib.Numerals.{add-one}
 use native.Mathlib.Omega.{arith}
-use borrow.Author.Tests.{eq-eqb, ne-eqb}
-use lib.ListN.{length, getD, take}
-use lib.Seq.{length-take-le}
-use Rattle.apportionment.specs.Limits.{stateLimit}
+use borrow.Author.Tests.{eq-eqb, ne-eqb, eqb-true, eqb-false, ltb-true, ltb-false}
+use lib.Dec.{eqb, ltb}
+use lib.ListN.{length, getD}
+use lib.Seq.{ext-getD}
+use Rattle.apportionment.specs.inner.Tests.{either-way}
 use Rattle.register.specs.Names.{nameInRow}
-use Rattle.placing.specs.declared.Placing.{Placing}
-use Rattle.showing.specs.Work.{stateLine, stateLines, weighedAt, weighedLines, differenceFrom, statesIn}
+use Rattle.showing.specs.Work.{stateLine, stateLines, weighedAt, weighedLines, differenceFrom, firstDifference}
 
 -- ---- the lines of the start and the end
 
@@ -47,12 +47,32 @@ pub difference-later : (xs ys : List ℕ) (left next i : ℕ) → left ≡ suc n
 unfolding differenceFrom
 difference-later xs ys left next i one same = rw (one, eq-eqb (getD xs i 0) (getD ys i 0) same)
 
--- ---- the blocks
+-- Where the first difference lies past every place, there is none.
+no-difference : (xs ys : List ℕ) (left i : ℕ) → i + left ≤ differenceFrom xs ys left i
+    → (j : ℕ) → i ≤ j → j < i + left → getD xs j 0 ≡ getD ys j 0
+unfolding differenceFrom
+no-difference xs ys zero i past j from below = absurd (omega arith)
+no-difference xs ys (suc left) i past j from below =
+    either-way (eqb (getD xs i 0) (getD ys i 0))
+    (λ same.
+    either-way (eqb i j)
+    (λ here. rw (eqb-true i j here) at (eqb-true (getD xs i 0) (getD ys i 0) same))
+    (λ later.
+    let next : i + 1 ≤ j = omega (arith, eqb-false i j later) in
+    let rest : i + suc left ≤ differenceFrom xs ys left (i + 1) = rw same at past in
+    no-difference xs ys left (i + 1) (omega arith) j next (omega arith)))
+    (λ other.
+    let here : i + suc left ≤ i = rw other at past in
+    absurd (omega arith))
 
--- So a list with a place for each state that there may be has one for each of these.
-pub states-fit : (p : Placing) {n : ℕ} (xs : List ℕ) → n ≡ statesIn p → length xs ≡ stateLimit → n ≤ length xs
-unfolding statesIn
-states-fit p xs counted full = omega arith
-
-pub states-taken : (p : Placing) {n : ℕ} (xs : List ℕ) → n ≡ statesIn p → length xs ≡ stateLimit → length (take n xs) ≡ n
-states-taken p {n} xs counted full = length-take-le n xs (states-fit p xs counted full)
+-- Lists of one length that are not the same differ at one of their places.
+pub differ-at-a-place : (xs ys : List ℕ) → length ys ≡ length xs → (xs ≡ ys → ⊥) → firstDifference xs ys < length xs
+unfolding firstDifference
+differ-at-a-place xs ys paired differ =
+    either-way (ltb (differenceFrom xs ys (length xs) 0) (length xs))
+    (λ inside. ltb-true (differenceFrom xs ys (length xs) 0) (length xs) inside)
+    (λ past.
+    let none : length xs ≤ differenceFrom xs ys (length xs) 0 = ltb-false (differenceFrom xs ys (length xs) 0) (length xs) past in
+    absurd
+    (differ
+    (ext-getD 0 xs ys (sym paired) (λ j below. no-difference xs ys (length xs) 0 (omega arith) j (omega arith) (omega arith)))))

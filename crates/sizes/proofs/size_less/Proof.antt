@@ -2,7 +2,7 @@
 -- Assumes nothing.
 use borrow.Author.Needs.{needs}
 use Rattle.apportionment.specs.Limits.{houseLimit, sumLimit}
-use Rattle.claims.specs.inner.MachineWords.{product-fits}
+use Rattle.apportionment.specs.inner.MachineWords.{product-fits}
 use Rattle.sizes.specs.inner.Sizes.{lessSize}
 use Prim.Native.Nat.{_+_, _*_}
 use Rattle.sizes.proofs.size_less.Statement.{statement}

@@ -2,7 +2,7 @@
 -- Assumes nothing.
 use Rattle.sizes.specs.inner.Sizes.{size-is, share-fits}
 use Rattle.apportionment.specs.Limits.{houseLimit, sumLimit}
-use Rattle.claims.specs.inner.MachineWords.{product-fits}
+use Rattle.apportionment.specs.inner.MachineWords.{product-fits}
 use Prim.Native.Nat.{_+_}
 use borrow.Author.Needs.{needs}
 use Rattle.sizes.proofs.size_of.Statement.{statement}

@@ -15,7 +15,7 @@ use borrow.Author.Tests.{lt-ltb, le-ltb, ltb-true, ltb-false}
 use Rattle.apportionment.specs.Limits.{houseLimit, sumLimit}
 use Rattle.apportionment.specs.inner.Problem.{Problem, sum-above-zero, entry-at-most-total}
 use Rattle.apportionment.specs.inner.Tests.{either-way}
-use Rattle.claims.specs.inner.MachineWords.{product-fits}
+use Rattle.apportionment.specs.inner.MachineWords.{product-fits}
 use Rattle.apportionment.specs.Quantities.{distance, sizeOf, less}
 use Rattle.claims.specs.inner.SizeClaims.{sizedClaimBefore, sizeBefore}
 use Rattle.sizes.specs.declared.Size.{Size}

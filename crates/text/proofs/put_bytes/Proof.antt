@@ -5,7 +5,7 @@ use Prim.Native.Nat.{_-_}
 use lib.ListN.{length}
 use lib.Seq.{length-take-le}
 use native.Mathlib.Omega.{arith}
-use Rattle.text.specs.inner.Writing.{wrote-past, wrote-laid, wrote-cut, laid-length}
+use Rattle.text.specs.inner.Writing.{wrote-past, wrote-laid, wrote-cut}
 use borrow.Author.Needs.{needs}
 use Rattle.text.proofs.put_bytes.Statement.{statement}
 use Rattle.text.proofs.put_bytes.Tie as tie

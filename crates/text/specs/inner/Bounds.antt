@@ -6,8 +6,8 @@ use mathlib.Core.List.{List, _++_}
 use Prim.Native.Nat.{ℕ, zero, suc, _+_, _*_, _^_, _<_, _≤_, _/_}
 use native.Mathlib.Nat.{suc-mul}
 use native.Mathlib.Omega.{arith}
-use borrow.Author.Tests.{ltb-true, ltb-false}
-use lib.Dec.{ltb}
+use borrow.Author.Tests.{leb-true, ltb-true, ltb-false}
+use lib.Dec.{leb, ltb}
 use lib.ListN.{length, length-append}
 use Rattle.apportionment.specs.Limits.{stateLimit, houseLimit, sumLimit}
 use Rattle.apportionment.specs.Text.{decimal}
@@ -15,8 +15,8 @@ use Rattle.apportionment.specs.Quantities.{hundredthsText, markText}
 use Rattle.apportionment.specs.declared.Mark.{Mark}
 use Rattle.apportionment.specs.declared.Mark.the-variants.{In, High, Over, None}
 use Rattle.apportionment.specs.declared.Method.{Method}
-use Rattle.apportionment.specs.declared.Method.the-variants.{Leximin, Adams, Dean, Hill, Webster, Jefferson, Remainders}
 use Rattle.apportionment.specs.Methods.{methodText}
+use Rattle.apportionment.specs.inner.Methods.{every-method}
 use Rattle.text.specs.Shared.{numbersText, totalLine, refusalLine}
 use Rattle.text.specs.inner.Decimal.{decimal-one, decimal-more}
 
@@ -60,13 +60,8 @@ mark-length None = omega arith
 
 pub method-length : (method : Method) → length (methodText method) ≤ 10
 unfolding methodText
-method-length Leximin = omega arith
-method-length Adams = omega arith
-method-length Dean = omega arith
-method-length Hill = omega arith
-method-length Webster = omega arith
-method-length Jefferson = omega arith
-method-length Remainders = omega arith
+method-length method =
+    leb-true (length (methodText method)) 10 (every-method (λ m. leb (length (methodText m)) 10) refl refl method)
 
 -- The bytes of two numbers, each within its own bound.
 pub numbers-length : {k l : ℕ} (x y : ℕ) → length (decimal x) ≤ k → length (decimal y) ≤ l → length (numbersText x y) ≤ k + l + 2

@@ -40,7 +40,8 @@ unfolding decimal decimalWith
 decimal-more zero large = absurd (omega arith)
 decimal-more (suc n) large =
     rw (le-ltb (suc n) 10 large)
-    (ap (λ (l : List ℕ). l ++ digit (suc n % 10)) (decimal-fuel n (suc n / 10) (suc n / 10) (tens-fuel n (suc n) (omega arith)) (omega arith)))
+    (ap (λ (l : List ℕ). l ++ digit (suc n % 10))
+    (decimal-fuel n (suc n / 10) (suc n / 10) (tens-fuel n (suc n) (omega arith)) (omega arith)))
 
 -- A shown number below zero is a minus sign and its size.
 pub shown-below : (shown : ℤ) → ltZ shown (pos 0) ≡ true → shownText shown ≡ bytesOf "-" ++ hundredthsText (natAbs shown)

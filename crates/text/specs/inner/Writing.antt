@@ -31,7 +31,9 @@ laid-past (b ∷ text) buffer at past = rw (set-out buffer at b past) (laid-past
 laid-append : (s t buffer : List ℕ) (at : ℕ) → laid buffer at (s ++ t) ≡ laid (laid buffer at s) (at + length s) t
 unfolding laid
 laid-append [] t buffer at = rw add-zero
-laid-append (b ∷ s) t buffer at = laid-append s t (set buffer at b) (suc at) ∙ ap (λ (k : ℕ). sets (sets (set buffer at b) (suc at) s) k t) (omega arith)
+laid-append (b ∷ s) t buffer at =
+    laid-append s t (set buffer at b) (suc at)
+    ∙ ap (λ (k : ℕ). sets (sets (set buffer at b) (suc at) s) k t) (omega arith)
 
 -- The second of two texts is laid where the place after the first says: at their seam or, if the first did not fit, nowhere.
 laid-next : (t buffer : List ℕ) (at size : ℕ) → laid buffer (placeAfter (length buffer) at size) t ≡ laid buffer (at + size) t

@@ -15,7 +15,7 @@ put-end-requires : tie.Need-put-end-requires
 put-end-requires c κs = search needs
 
 array-share-prefix-page : tie.Need-array-share-prefix-page
-array-share-prefix-page c = wrote-front (c .before .put-end .ensures) (end-fits _ _ _ (c .before .before .before .before .pre)) .within
+array-share-prefix-page c = wrote-front (c .before .put-end .ensures) (end-fits (c .before .before .before .before .pre)) .within
 
 slice-aggregate-print : tie.Need-slice-aggregate-print
 slice-aggregate-print c = sym (length-take-le _ _ (array-share-prefix-page (c .before)))

@@ -1,4 +1,4 @@
--- `work::print_move` is safe: the page has room for a step between placings that can be shown.
+-- `work::print_move` is safe: the page has room for a step that can be shown.
 -- Assumes nothing.
 use mathlib.Core.Path.{sym}
 use lib.Seq.{length-take-le}
@@ -15,9 +15,7 @@ put-move-requires : tie.Need-put-move-requires
 put-move-requires c κs = search needs
 
 array-share-prefix-page : tie.Need-array-share-prefix-page
-array-share-prefix-page c =
-    let both = c .before .before .before .before .pre in
-    wrote-front (c .before .put-move .ensures) (move-fits _ _ _ _ (both .0) (both .1)) .within
+array-share-prefix-page c = wrote-front (c .before .put-move .ensures) (move-fits (c .before .before .before .before .pre)) .within
 
 slice-aggregate-print : tie.Need-slice-aggregate-print
 slice-aggregate-print c = sym (length-take-le _ _ (array-share-prefix-page (c .before)))

@@ -15,7 +15,7 @@ put-start-requires : tie.Need-put-start-requires
 put-start-requires c κs = search needs
 
 array-share-prefix-page : tie.Need-array-share-prefix-page
-array-share-prefix-page c = wrote-front (c .before .put-start .ensures) (start-fits _ _ _ (c .before .before .before .before .pre)) .within
+array-share-prefix-page c = wrote-front (c .before .put-start .ensures) (start-fits (c .before .before .before .before .pre)) .within
 
 slice-aggregate-print : tie.Need-slice-aggregate-print
 slice-aggregate-print c = sym (length-take-le _ _ (array-share-prefix-page (c .before)))

@@ -8,7 +8,7 @@ use mathlib.Core.Path.{_≡_}
 use Prim.Native.Nat.{_≤_, _-_}
 use native.Mathlib.Omega.{arith}
 use Rattle.apportionment.specs.Limits.{stateLimit}
-use Rattle.work.specs.inner.Way.{onTheWay, wayOf, on-the-way-shown, short-way, step-goes-on, step-at-end}
+use Rattle.work.specs.inner.Way.{onTheWay, wayOf, step-shown, short-way, step-goes-on, step-at-end}
 use Rattle.work.proofs.print_steps.Statement.{statement}
 use Rattle.work.proofs.print_steps.Tie as tie
 
@@ -36,7 +36,7 @@ print-move-requires c κs =
     let begun = turn .before .before .pre in
     let stepped = c .before .before .before .step .ensures in
     let on = step-goes-on begun (turn .loop .inv .0) (turn .loop .inv .1) stepped (c .before .if1 .left) in
-    (on-the-way-shown begun _ (turn .loop .inv .0) (turn .loop .inv .1), on-the-way-shown begun _ (on .1) (omega (arith, on .0)))
+    step-shown begun _ (turn .loop .inv .0) (on .1) (on .0)
 
 add-made : tie.Need-add-made Inv-loop μ-loop
 add-made c = search needs

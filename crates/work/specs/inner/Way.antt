@@ -1,41 +1,44 @@
 -- The way from the placing that opening gives to the house, which the program prints: stepping goes through it to its end, and every
--- placing on it can be shown, so that each block fits its page.
+-- placing on it and every step between two of them can be shown, so that each block is written and fits its page.
 -- Assumes nothing.
 use mathlib.Core.Path.{_≡_, refl, sym, _∙_, ap}
-use mathlib.Core.Bool.{Bool, true, false, cond}
-use mathlib.Core.List.{List, [], _∷_, _++_}
-use Prim.Native.Nat.{ℕ, zero, suc, _+_, _-_, _<_, _≤_}
+use mathlib.Core.List.{List}
+use Prim.Native.Nat.{ℕ, suc, _+_, _-_, _<_, _≤_}
 use native.Mathlib.Nat.{le-antisymm}
 use native.Mathlib.Omega.{arith}
 use lib.Dec.{eqb, ltb}
-use lib.ListN.{length, getD, take, replicate}
+use lib.ListN.{length, getD, take}
 use lib.Seq.{length-take-le}
 use borrow.Author.Tests.{eqb-true, eqb-false, ltb-true, ltb-false}
-use Rattle.apportionment.specs.Limits.{stateLimit, houseLimit}
+use Rattle.apportionment.specs.Limits.{stateLimit}
 use Rattle.apportionment.specs.Refusals.{accepted, houseReached}
 use Rattle.apportionment.specs.Lists.{sum}
+use Rattle.apportionment.specs.inner.Tests.{either-way}
 use Rattle.apportionment.specs.inner.Lists.{entry-at-most-sum}
 use Rattle.apportionment.specs.Quantities.{distance}
 use Rattle.apportionment.specs.Leximin.{leximinFor, startTotal, gap, totalAfter}
 use Rattle.claims.specs.inner.StartBounds.{gap-below-states}
+use Rattle.claims.specs.inner.SizeClaims.{problem-positive}
 use Rattle.claims.specs.inner.LeximinSteps.{states-at-most-passed}
+use Rattle.claims.specs.inner.Allotments.{Allotment}
 use Rattle.claims.specs.inner.LeastOfAll.{leximin-least-of-all}
 use Rattle.apportionment.specs.Allotment.{openRefusal}
-use Rattle.problem.specs.inner.Passed.{OpenPassed, open-passed}
-use Rattle.leximin.specs.inner.Start.{ready-sound}
+use Rattle.problem.specs.inner.Passed.{Openable, open-passed}
+use Rattle.departure.specs.inner.Answer.{InLimits}
 use Rattle.register.specs.Register.{readingOf}
 use Rattle.register.specs.Names.{rowsOf, nameInRow}
 use Rattle.register.specs.inner.Sound.{ReadingSound, reading-sound}
 use Rattle.register.specs.inner.Rows.{nameLimit, name-limited}
 use Rattle.register.specs.declared.Reading.{Reading}
-use Rattle.placing.specs.Placing.{padded, started, placingAt, openedOf, steppedOf, refusedWith, peopleOf}
+use Rattle.placing.specs.Placing.{started, placingAt, openedOf, steppedOf, refusedWith, peopleOf}
 use Rattle.placing.specs.inner.Lists.{take-padded}
-use Rattle.placing.specs.inner.Telling.{opened-ready}
-use Rattle.placing.specs.inner.Walk.{start-is-first, step-before-house, step-at-house}
+use Rattle.placing.specs.inner.Genuine.{lex-within-house}
+use Rattle.placing.specs.inner.Walk.{own-people, start-is-first, step-before-house, step-at-house}
 use Rattle.placing.specs.declared.Placing.{Placing}
 use Rattle.placing.specs.declared.Placed.{Placed}
-use Rattle.showing.specs.Work.{statesIn}
-use Rattle.showing.specs.inner.Room.{Showable, seatsLimit}
+use Rattle.showing.specs.Work.{seatsIn, movedAt}
+use Rattle.showing.specs.inner.Work.{differ-at-a-place}
+use Rattle.showing.specs.inner.Showable.{totalLimit, Showable, ShowableStep}
 
 -- ---- the way
 
@@ -56,54 +59,104 @@ pub record Begun (rows : List ℕ) (start : Placing) (P : ℕ) : Type 0 where
 
 -- ---- every placing on it can be shown
 
-no-more : (k i : ℕ) → _≡_ {A = ℕ} (getD (replicate k 0) i 0) 0
-no-more zero i = refl
-no-more (suc k) zero = refl
-no-more (suc k) (suc i) = no-more k i
-
--- A list filled up with 0 holds nothing above its sum.
-padded-at-most : (xs : List ℕ) (i : ℕ) → getD (padded xs) i 0 ≤ sum xs
-unfolding padded sum
-padded-at-most xs i = filled xs i
-  where
-    filled : (ys : List ℕ) (j : ℕ) → getD (ys ++ replicate (stateLimit - length xs) 0) j 0 ≤ sum ys
-    filled [] j = omega (arith, no-more (stateLimit - length xs) j)
-    filled (y ∷ ys) zero = omega arith
-    filled (y ∷ ys) (suc j) = omega (arith, filled ys j)
-
 module _ (ps : List ℕ) (H : ℕ) (opens : openRefusal ps H ≡ accepted) (m : ℕ) (few : m ≤ gap ps H) where
-  passed : OpenPassed ps H
+  passed : Openable ps H
   passed = open-passed ps H opens
 
   few-steps : gap ps H < stateLimit
-  few-steps = omega (arith, gap-below-states (ready-sound (opened-ready passed)), passed .problem .statesWithin)
+  few-steps = omega (arith, gap-below-states (problem-positive (passed .problem)), passed .problem .states .statesWithin)
 
-  total-limited : totalAfter ps H m ≤ seatsLimit
+  total-limited : totalAfter ps H m ≤ totalLimit
   unfolding totalAfter gap distance
-  total-limited = by-direction (ltb (startTotal ps H) H) refl
-    where
-      by-direction : (t : Bool) → ltb (startTotal ps H) H ≡ t → totalAfter ps H m ≤ seatsLimit
-      by-direction true e = rw e (omega (arith, few, passed .problem .houseWithin, ltb-true (startTotal ps H) H e))
-      by-direction false e = rw e (omega (arith, few-steps, passed .problem .houseWithin, ltb-false (startTotal ps H) H e))
+  total-limited =
+      either-way (ltb (startTotal ps H) H)
+      (λ below. rw below (omega (arith, few, passed .problem .houseWithin, ltb-true (startTotal ps H) H below)))
+      (λ above. rw above (omega (arith, few-steps, passed .problem .houseWithin, ltb-false (startTotal ps H) H above)))
 
-  seats-limited : (i : ℕ) → getD (padded (leximinFor ps H (totalAfter ps H m))) i 0 ≤ seatsLimit
-  seats-limited i =
-      let sound = ready-sound (opened-ready passed) in
-      let least = leximin-least-of-all sound (totalAfter ps H m) (states-at-most-passed sound (passed .seatForEach) m few) in
-      omega (arith, padded-at-most (leximinFor ps H (totalAfter ps H m)) i, least .allotted .whole, total-limited)
+  -- The seats that so many steps lead to.
+  abbrev seats : List ℕ
+  seats = leximinFor ps H (totalAfter ps H m)
+
+  allotted : Allotment (length ps) (totalAfter ps H m) seats
+  allotted =
+      let positive = problem-positive (passed .problem) in
+      leximin-least-of-all positive (totalAfter ps H m) (states-at-most-passed positive (passed .seatForEach) m few) .allotted
+
+  state-in-limits : (i : ℕ) → i < length ps → InLimits (getD ps i 0) (getD seats i 0) (sum ps) H
+  state-in-limits i below =
+      let peopled = passed .problem .states .peopled i below in
+      record {
+        some-total = omega (arith, entry-at-most-sum ps i);
+        total-limited = passed .problem .states .sumWithin;
+        some-house = passed .problem .someSeat;
+        house-limited = passed .problem .houseWithin;
+        some-people = peopled;
+        people-within = entry-at-most-sum ps i;
+        seats-within = lex-within-house (passed .problem) (passed .seatForEach) m few i;
+      }
+
+  -- A placing's own seats are those that it was made with.
+  own-seats : seatsIn (placingAt ps H m) ≡ seats
+  unfolding placingAt seatsIn
+  own-seats = rw (← allotted .states) (take-padded seats)
 
   way-showable : (rows : List ℕ) → ((i : ℕ) → i < length ps → length (nameInRow rows i) ≤ nameLimit)
       → Showable rows (placingAt ps H m) (sum ps)
-  unfolding placingAt statesIn
+  unfolding placingAt
   way-showable rows named =
       record {
-        named = λ i below. named i (omega arith);
-        peopled = λ i. omega (arith, padded-at-most ps i, passed .problem .sumWithin);
-        seated = seats-limited;
-        housed = passed .problem .houseWithin;
-        summed = passed .problem .sumWithin;
-        totalled = total-limited;
-        stepped = omega (arith, few, few-steps);
+        few-states = passed .problem .states .statesWithin;
+        counted = ap length (own-people ps H m);
+        short-names = named;
+        in-limits = rw (own-people ps H m, own-seats) (record { paired = allotted .states; each = state-in-limits });
+        seated = rw own-seats (allotted .each);
+        unfilled = λ short i below. rw own-seats (omega (arith, entry-at-most-sum seats i, allotted .whole));
+        house-limited = passed .problem .houseWithin;
+        sum-limited = passed .problem .states .sumWithin;
+        total-limited = total-limited;
+        few-steps = omega (arith, few, few-steps);
+      }
+
+-- ---- and so can every step, since one seat more or fewer is a seat of some state
+
+module _ (ps : List ℕ) (H : ℕ) (opens : openRefusal ps H ≡ accepted) (m : ℕ) (left : m < gap ps H) where
+  totals-differ : totalAfter ps H m ≡ totalAfter ps H (m + 1) → ⊥
+  unfolding totalAfter gap distance
+  totals-differ same =
+      either-way (ltb (startTotal ps H) H)
+      (λ below. omega (arith, rw below at same))
+      (λ above. omega (arith, rw above at same, left, ltb-false (startTotal ps H) H above))
+
+  few : m ≤ gap ps H
+  few = omega arith
+
+  next : m + 1 ≤ gap ps H
+  next = omega arith
+
+  state-moves : movedAt (placingAt ps H m) (placingAt ps H (m + 1)) < length ps
+  unfolding movedAt
+  state-moves =
+      let before = allotted ps H opens m few in
+      let after = allotted ps H opens (m + 1) next in
+      rw (own-seats ps H opens m few, own-seats ps H opens (m + 1) next)
+      (omega (
+        arith,
+        before .states,
+        differ-at-a-place (seats ps H opens m few) (seats ps H opens (m + 1) next) (after .states ∙ sym (before .states))
+            (λ same. totals-differ (sym (before .whole) ∙ ap sum same ∙ after .whole)),
+      ))
+
+  way-step : (rows : List ℕ) → ((i : ℕ) → i < length ps → length (nameInRow rows i) ≤ nameLimit)
+      → ShowableStep rows (placingAt ps H m) (placingAt ps H (m + 1)) (sum ps)
+  unfolding placingAt
+  way-step rows named =
+      record {
+        earlier = way-showable ps H opens m few rows named;
+        later = way-showable ps H opens (m + 1) next rows named;
+        same-states = refl;
+        same-people = refl;
+        same-house = refl;
+        state-moved = state-moves;
       }
 
 module _ {rows : List ℕ} {start : Placing} {P : ℕ} (begun : Begun rows start P) where
@@ -112,6 +165,10 @@ module _ {rows : List ℕ} {start : Placing} {P : ℕ} (begun : Begun rows start
 
   pub start-shown : Showable rows start P
   start-shown = on-the-way-shown 0 (begun .first) (omega arith)
+
+  pub step-shown : {p q : Placing} (m : ℕ) → p ≡ onTheWay start m → q ≡ onTheWay start (m + 1) → m < wayOf start → ShowableStep rows p q P
+  step-shown m is then left =
+      rw (is, then, begun .summed) (way-step (peopleOf start) (start .house) (begun .opens) m left rows (begun .named))
 
   -- The way has fewer steps than a register may have states.
   pub short-way : wayOf start < stateLimit
@@ -132,21 +189,19 @@ module _ {rows : List ℕ} {start : Placing} {P : ℕ} (begun : Begun rows start
 
     -- A step that is not refused leads to the next placing ..
     pub step-goes-on : r .refusal ≡ accepted → (m < wayOf start) × (r .placing ≡ onTheWay start (m + 1))
-    step-goes-on accepts = by-test (ltb m (wayOf start)) refl
-      where
-        by-test : (t : Bool) → ltb m (wayOf start) ≡ t → (m < wayOf start) × (r .placing ≡ onTheWay start (m + 1))
-        by-test true left =
-            let below = ltb-true m (wayOf start) left in
-            (below, ap (λ (x : Placed). x .placing) (before-the-house below) ∙ ap (onTheWay start) (omega arith))
-        by-test false there = absurd (omega (arith, accepts, at-the-house (ltb-false m (wayOf start) there)))
+    step-goes-on accepts =
+        either-way (ltb m (wayOf start))
+        (λ left.
+        let below = ltb-true m (wayOf start) left in
+        (below, ap (λ (x : Placed). x .placing) (before-the-house below) ∙ ap (onTheWay start) (omega arith)))
+        (λ there. absurd (omega (arith, accepts, at-the-house (ltb-false m (wayOf start) there))))
 
     -- .. and one that is refused stands at the house.
     pub step-at-end : (r .refusal ≡ accepted → ⊥) → p ≡ onTheWay start (wayOf start)
-    step-at-end refused = by-test (ltb m (wayOf start)) refl
-      where
-        by-test : (t : Bool) → ltb m (wayOf start) ≡ t → p ≡ onTheWay start (wayOf start)
-        by-test true left = absurd (refused (ap (λ (x : Placed). x .refusal) (before-the-house (ltb-true m (wayOf start) left))))
-        by-test false there = is ∙ ap (onTheWay start) (le-antisymm few (ltb-false m (wayOf start) there))
+    step-at-end refused =
+        either-way (ltb m (wayOf start))
+        (λ left. absurd (refused (ap (λ (x : Placed). x .refusal) (before-the-house (ltb-true m (wayOf start) left)))))
+        (λ there. is ∙ ap (onTheWay start) (le-antisymm few (ltb-false m (wayOf start) there)))
 
 -- ---- a register that opens begins it
 
@@ -165,7 +220,13 @@ start-begins rows ps H opens named =
 pub read-begins : (s : List ℕ) (r : Reading) (o : Placed) → r ≡ readingOf s → r .refusal ≡ accepted
     → o ≡ openedOf (take (r .states) (r .populations)) (r .house) → o .refusal ≡ accepted → Begun (rowsOf s) (o .placing) (r .total)
 unfolding openedOf
-read-begins s r o read good opened accepts = by-refusal (eqb (openRefusal ps (r .house)) accepted) refl
+read-begins s r o read good opened accepts =
+    either-way (eqb (openRefusal ps (r .house)) accepted)
+    (λ opens.
+    let handed : o ≡ record { refusal = accepted; placing = started ps (r .house) } = rw opens at opened in
+    let begins : o .placing ≡ started ps (r .house) = ap (λ (x : Placed). x .placing) handed in
+    rw (begins, sound .populations .summed) (start-begins (rowsOf s) ps (r .house) (eqb-true _ _ opens) named))
+    (λ refuses. absurd (eqb-false _ _ refuses (sym (ap (λ (x : Placed). x .refusal) (rw refuses at opened)) ∙ accepts)))
   where
     ps : List ℕ
     ps = take (r .states) (r .populations)
@@ -180,10 +241,3 @@ read-begins s r o read good opened accepts = by-refusal (eqb (openRefusal ps (r 
     named i below =
         let inside : i < r .states = omega (arith, each) in
         name-limited s (rw read at good) i (rw read at inside)
-
-    by-refusal : (t : Bool) → eqb (openRefusal ps (r .house)) accepted ≡ t → Begun (rowsOf s) (o .placing) (r .total)
-    by-refusal true t =
-        let handed : o ≡ record { refusal = accepted; placing = started ps (r .house) } = rw t at opened in
-        let begins : o .placing ≡ started ps (r .house) = ap (λ (x : Placed). x .placing) handed in
-        rw (begins, sound .populations .summed) (start-begins (rowsOf s) ps (r .house) (eqb-true _ _ t) named)
-    by-refusal false t = absurd (eqb-false _ _ t (sym (ap (λ (x : Placed). x .refusal) (rw t at opened)) ∙ accepts))

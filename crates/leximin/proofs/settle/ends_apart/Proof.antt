@@ -1,7 +1,6 @@
 -- `leximin::settle::ends_apart` meets its contract: the two scans give the theory's two ends, both of them states of the list, and
 -- comparing their claims is comparing sizes.
 -- Assumes nothing.
-use mathlib.Core.Path.{_∙_}
 use native.Mathlib.Omega.{arith}
 use borrow.Author.Needs.{scaled-fits}
 use Rattle.leximin.specs.inner.Moves.{met-inside, unmet-inside, inside-states}

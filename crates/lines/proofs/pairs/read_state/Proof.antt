@@ -6,7 +6,7 @@ use mathlib.Core.List.{List}
 use Prim.Native.Nat.{ℕ}
 use Rattle.fields.specs.inner.Tests.{failed, passed}
 use Rattle.fields.specs.Parts.{allBetween}
-use Rattle.fields.specs.Grammar.{fieldOf, fieldsAfter, isName, valueOf}
+use Rattle.fields.specs.Grammar.{fieldOf, fieldsAfter, valueOf}
 use Rattle.lines.specs.Lines.{nameAt, numberField, numberAt, usedIn, isPair, isStateLine}
 use Rattle.lines.specs.inner.Lines.{entryRefusal, state-parts}
 use Rattle.lines.specs.inner.Fingerprints.{fingerprintOf, field-end, field-plain, field-print}

@@ -23,11 +23,18 @@ Inv-loop out₀ at word rows populations seats sum house next₀ row₀ k₀ out
 abbrev μ-loop : tie.MeasureT-loop
 μ-loop out₀ at word rows populations seats sum house next₀ row₀ k₀ out next row k = length populations - k
 
+-- Where nothing is written yet, and where the turn of the loop starts.
+abbrev start : tie.At-loop Inv-loop μ-loop → tie.Start Inv-loop μ-loop
+start c =
+    let lent = c .before .before .before in
+    lent .before .before .before
+
+abbrev turn : tie.After-first-name Inv-loop μ-loop → tie.At-loop Inv-loop μ-loop
+turn c = c .before .before .before
+
 loop-holds : tie.Need-loop-holds Inv-loop μ-loop
 unfolding linesAfter stateLines
-loop-holds c =
-    let start = c .before .before .before .before .before in
-    (omega arith, refl, (start .pre) .0)
+loop-holds c = (omega arith, refl, c .before .before .before .before .before .pre .0)
 
 first-name-requires : tie.Need-first-name-requires Inv-loop μ-loop
 first-name-requires c κs = search needs
@@ -39,20 +46,15 @@ shared-slice-read-put-state : tie.Need-shared-slice-read-put-state Inv-loop μ-l
 shared-slice-read-put-state c = search needs
 
 mul-put-state-2 : tie.Need-mul-put-state-2 Inv-loop μ-loop
-mul-put-state-2 c =
-    let past = c .before .before .before .before .before in
-    let start = past .before .before .before .before .before in
-    omega (arith, (start .pre) .1)
+mul-put-state-2 c = omega (arith, start (turn (c .before)) .pre .1 .paired)
 
 shared-slice-read-put-state-2 : tie.Need-shared-slice-read-put-state-2 Inv-loop μ-loop
-shared-slice-read-put-state-2 c =
-    let past = c .before .before .before .before .before in
-    let past-2 = past .before .before .before .before .before in
-    let start = past-2 .before in
-    omega (arith, (start .pre) .1)
+shared-slice-read-put-state-2 c = omega (arith, start (turn (c .before .before)) .pre .1 .paired)
 
 put-state-requires : tie.Need-put-state-requires Inv-loop μ-loop
-put-state-requires c κs = search needs
+put-state-requires c κs =
+    let at = turn (c .before .before) in
+    start at .pre .1 .each (at .loop .k) (omega arith)
 
 rest-requires : tie.Need-rest-requires Inv-loop μ-loop
 rest-requires c κs = search needs
@@ -67,14 +69,14 @@ loop-again : tie.Need-loop-again Inv-loop μ-loop
 loop-again c =
     let at-put-state = c .before .before .before in
     let at-first-name = at-put-state .before .before .before in
-    let at-loop = at-first-name .before .before .before in
-    let past = at-loop .before .before .before .before .before in
-    let start = past .before in (
+    let at-loop = turn at-first-name in
+    let rows = start at-loop .args .rows .now in (
       omega arith,
-      cc (rows-next (at-loop .loop .k) (start .args .rows .now)),
+      cc (rows-next (at-loop .loop .k) rows),
       rw state-lines-more
           (wrote-then (at-loop .loop .inv .2)
-          (rw (at-first-name .first-name .ensures, at-loop .loop .inv .1, name-of-first (at-loop .loop .k) (start .args .rows .now)) at (at-put-state .put-state .ensures))),
+          (rw (at-first-name .first-name .ensures, at-loop .loop .inv .1, name-of-first (at-loop .loop .k) rows) at
+          (at-put-state .put-state .ensures))),
     )
 
 same-length : tie.Need-same-length Inv-loop μ-loop
@@ -82,9 +84,9 @@ same-length c = wrote-length (c .before .loop .inv .2)
 
 returns : tie.Need-returns Inv-loop μ-loop
 returns c =
-    let past = c .before .before .before .before .before in
-    let start = past .before .before in
-    let all : (c .before .loop .k) ≡ length (start .args .populations .now) = omega arith in rw all at (c .before .loop .inv .2)
+    let at = c .before in
+    let all : at .loop .k ≡ length (start at .args .populations .now) = omega arith in
+    rw all at (at .loop .inv .2)
 
 pub put-states-spec : {M : Type 1} → statement M
 put-states-spec =

@@ -3,6 +3,7 @@
 -- Assumes nothing.
 use mathlib.Core.Path.{_≡_, refl}
 use Prim.Native.Nat.{_≤_, _-_}
+use native.Mathlib.Nat.{le-trans}
 use native.Mathlib.Omega.{arith}
 use borrow.Author.Needs.{needs}
 use lib.ListN.{length}
@@ -23,15 +24,22 @@ Inv-loop out₀ at step adds rows populations seats sum house next₀ row₀ k�
 abbrev μ-loop : tie.MeasureT-loop
 μ-loop out₀ at step adds rows populations seats sum house next₀ row₀ k₀ out next row k = length populations - k
 
+-- Where nothing is written yet, and where the turn of the loop starts.
+abbrev start : tie.At-loop Inv-loop μ-loop → tie.Start Inv-loop μ-loop
+start c = c .before .before .before .before .before
+
+abbrev turn : tie.After-first-name Inv-loop μ-loop → tie.At-loop Inv-loop μ-loop
+turn c = c .before .before .before .before
+
 loop-holds : tie.Need-loop-holds Inv-loop μ-loop
 unfolding linesAfter weighedLines
-loop-holds c = (omega arith, refl, (c .before .before .before .before .pre) .0)
+loop-holds c = (omega arith, refl, c .before .before .before .before .pre .0)
 
 mul-held : tie.Need-mul-held Inv-loop μ-loop
-mul-held c = search needs
+mul-held c = omega (arith, start (c .before) .pre .1 .as-they-are .paired)
 
 shared-slice-read-held : tie.Need-shared-slice-read-held Inv-loop μ-loop
-shared-slice-read-held c = search needs
+shared-slice-read-held c = omega (arith, start (c .before .before) .pre .1 .as-they-are .paired)
 
 first-name-requires : tie.Need-first-name-requires Inv-loop μ-loop
 first-name-requires c κs = search needs
@@ -43,10 +51,19 @@ shared-slice-read-put-weighed : tie.Need-shared-slice-read-put-weighed Inv-loop 
 shared-slice-read-put-weighed c = search needs
 
 seats-if-moved-requires : tie.Need-seats-if-moved-requires Inv-loop μ-loop
-seats-if-moved-requires c κs = search needs
+seats-if-moved-requires c κs =
+    let at = turn (c .before) in
+    let fit = start at .pre .1 in
+    let moved = fit .as-they-would-be (at .loop .k) (omega arith) in
+    (fit .seated (at .loop .k) (omega arith), le-trans (moved .seats-within) (moved .house-limited))
 
 put-weighed-requires : tie.Need-put-weighed-requires Inv-loop μ-loop
-put-weighed-requires c κs = search needs
+put-weighed-requires c κs =
+    let at = turn (c .before .before) in
+    let fit = start at .pre .1 in (
+      fit .as-they-are .each (at .loop .k) (omega arith),
+      rw (c .seats-if-moved .ensures) (fit .as-they-would-be (at .loop .k) (omega arith)),
+    )
 
 rest-requires : tie.Need-rest-requires Inv-loop μ-loop
 rest-requires c κs = search needs
@@ -63,14 +80,18 @@ loop-again c =
     let at-put-weighed = c .before .before .before in
     let at-seats-if-moved = at-put-weighed .before in
     let at-first-name = at-seats-if-moved .before .before in
-    let at-loop = at-first-name .before .before .before .before in
-    let start = at-loop .before .before .before .before .before in (
+    let at-loop = turn at-first-name in
+    let rows = start at-loop .args .rows .now in (
       omega arith,
-      cc (rows-next (at-loop .loop .k) (start .args .rows .now)),
+      cc (rows-next (at-loop .loop .k) rows),
       rw weighed-lines-more
           (wrote-then (at-loop .loop .inv .2)
-          (rw
-          (at-seats-if-moved .seats-if-moved .ensures, at-first-name .first-name .ensures, at-loop .loop .inv .1, name-of-first (at-loop .loop .k) (start .args .rows .now)) at
+          (rw (
+            at-seats-if-moved .seats-if-moved .ensures,
+            at-first-name .first-name .ensures,
+            at-loop .loop .inv .1,
+            name-of-first (at-loop .loop .k) rows,
+          ) at
           (at-put-weighed .put-weighed .ensures))),
     )
 
@@ -79,9 +100,9 @@ same-length c = wrote-length (c .before .loop .inv .2)
 
 returns : tie.Need-returns Inv-loop μ-loop
 returns c =
-    let past = c .before .before .before .before .before in
-    let start = past .before in
-    let all : (c .before .loop .k) ≡ length (start .args .populations .now) = omega arith in rw all at (c .before .loop .inv .2)
+    let at = c .before in
+    let all : at .loop .k ≡ length (start at .args .populations .now) = omega arith in
+    rw all at (at .loop .inv .2)
 
 pub put-weighings-spec : {M : Type 1} → statement M
 put-weighings-spec =

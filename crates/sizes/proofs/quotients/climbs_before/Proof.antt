@@ -1,7 +1,6 @@
 -- `sizes::quotients::climbs_before` meets its contract: the tests that were made pick the case of the order by quotients, which is the
 -- order of claims at or above the start.
 -- Assumes nothing.
-use mathlib.Core.Path.{sym, _∙_}
 use Rattle.claims.specs.inner.SizeQuotients.{climbsBefore}
 use Rattle.sizes.specs.inner.Quotients.{climbs-compared}
 use borrow.Author.Needs.{needs}
