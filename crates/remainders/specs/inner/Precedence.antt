@@ -6,7 +6,7 @@ use mathlib.Core.Bool.{Bool, true, false, cond}
 use mathlib.Core.List.{List}
 use Prim.Native.Nat.{ℕ, suc, _+_, _-_, _*_, _/_, _%_, _≤_, _<_}
 use native.Mathlib.Omega.{arith}
-use native.Mathlib.Nat.{le-refl, mod-lt, suc-mul, mul-le-mul-right}
+use native.Mathlib.Nat.{le-refl, suc-mul, mul-le-mul-right}
 use lib.Dec.{ltb, leb}
 use lib.ListN.{length, getD}
 use mir.Syntax.{w64}
@@ -47,15 +47,12 @@ state-share ok i = record {
   sumWithin = ok .states .sumWithin;
 }
 
--- A precedence is made of words: the remainder is below the total, which leaves room for the population.
-pub weighted-remainder-fits : {p whole P H : ℕ} → Share p whole P H → Fits w64 (p * H % P * remainderWeight)
-weighted-remainder-fits {p} {whole} {P} {H} s =
-    product-fits sumLimit remainderWeight (omega (arith, mod-lt (p * H) (s .someone), s .sumWithin)) (le-refl remainderWeight) tt
+-- A number up to the largest sum has room for its weight, and for another such number beside it.
+pub weighted-fits : {x : ℕ} → x ≤ sumLimit → Fits w64 (x * remainderWeight)
+weighted-fits within = product-fits sumLimit remainderWeight within (le-refl remainderWeight) tt
 
-pub precedence-fits : {p whole P H : ℕ} → Share p whole P H → Fits w64 (p * H % P * remainderWeight + p)
-precedence-fits {p} {whole} {P} {H} s =
-    let small : p * H % P ≤ sumLimit - 1 = omega (arith, mod-lt (p * H) (s .someone), s .sumWithin) in
-    record { fits = omega (arith, mul-le-mul-right remainderWeight small, s .people, s .sumWithin) }
+pub weighted-leaves-room : {x y : ℕ} → x ≤ sumLimit → y ≤ sumLimit → Fits w64 (x * remainderWeight + y)
+weighted-leaves-room within beside = record { fits = omega (arith, mul-le-mul-right remainderWeight within, beside) }
 
 -- The precedences of all states.
 abbrev pub precedenceAt : (ps : List ℕ) (H i : ℕ) → ℕ
