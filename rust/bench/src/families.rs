@@ -59,9 +59,13 @@ pub const FAMILIES: [Family; 12] = [
         name: "odd multiples, 1 : 3 : 5 and on",
         make: |n| (0..n as u64).map(|i| (2 * i + 1) * 60_000).collect(),
     },
+    // Largest first, which a sort is quickest with.
     Family {
-        name: "the squares",
-        make: |n| (1..=n as u64).map(|i| i * i).collect(),
+        name: "squares in pairs, falling",
+        make: |n| {
+            let places = (1..=n as u64).rev();
+            places.map(|i| i.div_ceil(2).pow(2)).collect()
+        },
     },
     Family {
         name: "ones and a giant",
