@@ -46,7 +46,7 @@ starred =
     ∷ allots Leximin (3 ∷ 3 ∷ []) 3 (2 ∷ 1 ∷ [])
     ∷ allots Webster (1 ∷ 99 ∷ []) 2 (0 ∷ 2 ∷ [])
     ∷ allots Adams (1 ∷ 99 ∷ []) 2 (1 ∷ 1 ∷ [])
-    ∷ allots Remainders (1 ∷ 3 ∷ []) 2 (1 ∷ 1 ∷ [])
+    ∷ allots Remainders (1 ∷ 3 ∷ []) 2 (0 ∷ 2 ∷ [])
     ∷ shows 11 1 20 2 (bytesOf "10.00") In
     ∷ shows 115004 1 200000 2 (bytesOf "15.00") Over
     ∷ []

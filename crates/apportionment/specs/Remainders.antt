@@ -14,11 +14,14 @@ wholePart ps H i = getD ps i 0 * H / sum ps
 unfoldable pub remainder : (ps : List ℕ) (H i : ℕ) → ℕ
 remainder ps H i = getD ps i 0 * H % sum ps
 
--- State j is served before state i with a seat that is left: its remainder is larger, or equal and j is earlier in register order.
+-- State j is served before state i with a seat that is left: its remainder is larger; of equal remainders, its population is larger; of
+-- equal populations too, it is earlier in register order.
 unfoldable pub servedBefore : (ps : List ℕ) (H i j : ℕ) → Bool
 servedBefore ps H i j =
     cond (ltb (remainder ps H i) (remainder ps H j)) true
-    (cond (ltb (remainder ps H j) (remainder ps H i)) false (ltb j i))
+    (cond (ltb (remainder ps H j) (remainder ps H i)) false
+    (cond (ltb (getD ps i 0) (getD ps j 0)) true
+    (cond (ltb (getD ps j 0) (getD ps i 0)) false (ltb j i))))
 
 -- The seats left once each state has its whole part.
 unfoldable pub seatsLeft : (ps : List ℕ) (H : ℕ) → ℕ

@@ -167,11 +167,39 @@ fn first_guess(low: u64, high: u64, left: u64, states: u64) -> u64
     last - (last - low) / states * left
 }
 
+// Where the bar would be if the states stood in the order of their precedences, rising or falling. Only a guess: no proof relies on it.
+fn in_order(precedences: &[u64], left: u64) -> u64 {
+    let place = left as usize;
+    if precedences.len() <= place {
+        return 0;
+    }
+    let last = precedences.len() - 1;
+    if precedences[0] < precedences[last] {
+        return precedences[last - place];
+    }
+    precedences[place]
+}
+
+// Where to part a range next: at the guess where that is below the upper end; just below it where it is the upper end, to see whether the
+// bar is the guess itself, as it is where several states stand there; and else in the middle.
+fn next_guess(low: u64, high: u64, guess: u64) -> u64
+    requires { ⌜ low < high ⌝ }
+    ensures { λ r. ⌜ (low ≤ r) × (r < high) ⌝ }
+{
+    if guess == high {
+        return high - 1;
+    }
+    if low <= guess && guess < high {
+        return guess;
+    }
+    low + (high - low) / 2
+}
+
 // One state in so many is few: where the first guess cuts off no more than that, drawing the end in at once saves more than it costs.
 const FEW_IN: u64 = 32;
 
 // The bar: a precedence with at most `left` states above it, and at least as many at it or above. What lies between the least and the
-// greatest precedence is parted at a first guess, and then halved, until one number is left.
+// greatest precedence is parted at two guesses, and then halved, until one number is left.
 pub fn bar_of(precedences: &[u64], left: u64, least: u64, greatest: u64) -> Range
     requires { ⌜ Searchable (now precedences) left least greatest ⌝ }
     ensures { λ r. ⌜ BarFound (now (precedences .entry)) left r ⌝ }
@@ -190,9 +218,10 @@ pub fn bar_of(precedences: &[u64], left: u64, least: u64, greatest: u64) -> Rang
         return all;
     }
     let guess = first_guess(least, greatest, left, states);
+    let second = in_order(precedences, left);
     let mut range = parted(precedences, left, all, guess);
     while range.low < range.high {
-        let middle = range.low + (range.high - range.low) / 2;
+        let middle = next_guess(range.low, range.high, second);
         range = parted(precedences, left, range, middle);
     }
     range

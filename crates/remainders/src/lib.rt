@@ -1,25 +1,29 @@
 // Largest remainders: each state has its whole part, and those of the highest precedence the seats that are left.
 use apportionment::STATE_LIMIT;
+use apportionment::SUM_LIMIT;
 use bar::bar_of;
 use bar::greater;
 use bar::lesser;
 ghost use mathlib.Core.Path.{_≡_};
-ghost use Prim.Native.Nat.{_*_, _/_, _^_, _<_};
 ghost use lib.ListN.{length};
 ghost use Rattle.apportionment.specs.Remainders.{remainderSeats};
 ghost use Rattle.apportionment.specs.inner.Problem.{Fillable};
-ghost use Rattle.remainders.specs.inner.Precedence.{precedenceOf, withExtra};
+ghost use Rattle.remainders.specs.inner.Precedence.{precedenceOf, Share, withExtra};
 ghost use Rattle.remainders.specs.inner.Serving.{extraBy, spareAfter};
 ghost use Rattle.bar.specs.inner.Search.{Searchable};
 ghost use Rattle.remainders.specs.inner.Seats.{Filled, HasRoom, RoomFrom, ServedTo, servedFrom, served};
 
-// The number by which states are served with the seats that are left, the larger first, for a state of this population and whole part:
-// its remainder. This function alone says what a precedence is.
+// What a remainder counts in a precedence: more than any population.
+const REMAINDER_WEIGHT: u64 = SUM_LIMIT + 1;
+
+// The number by which states are served with the seats that are left, the larger first, for a state of this population and whole part: its
+// remainder and, among equal ones, its population. This function alone says what a precedence is.
 fn precedence(population: u64, whole: u64, total: u64, house: u64) -> u64
-    requires { ⌜ (population * house < 2 ^ 64) × (whole ≡ population * house / total) ⌝ }
+    requires { ⌜ Share population whole total house ⌝ }
     ensures { λ r. ⌜ r ≡ precedenceOf population total house ⌝ }
 {
-    population * house - whole * total
+    let remainder = population * house - whole * total;
+    remainder * REMAINDER_WEIGHT + population
 }
 
 // The largest number there is: no state is above it.

@@ -24,7 +24,7 @@ impl Family {
     }
 }
 
-pub const FAMILIES: [Family; 9] = [
+pub const FAMILIES: [Family; 12] = [
     Family {
         name: "all equal",
         make: |n| in_turn(n, &[1_000_000]),
@@ -48,6 +48,24 @@ pub const FAMILIES: [Family; 9] = [
     Family {
         name: "three sizes, 1 : 2 : 3",
         make: |n| in_turn(n, &[1_000, 2_000, 3_000]),
+    },
+    // 1,000 units at 250 states: remainders are equal and populations differ at every house that
+    // shares a large divisor with it.
+    Family {
+        name: "four sizes, 1 : 7 : 3 : 5",
+        make: |n| in_turn(n, &[1_000, 7_000, 3_000, 5_000]),
+    },
+    Family {
+        name: "odd multiples, 1 : 3 : 5 and on",
+        make: |n| (0..n as u64).map(|i| (2 * i + 1) * 60_000).collect(),
+    },
+    // Largest first, which a sort is quickest with.
+    Family {
+        name: "squares in pairs, falling",
+        make: |n| {
+            let places = (1..=n as u64).rev();
+            places.map(|i| i.div_ceil(2).pow(2)).collect()
+        },
     },
     Family {
         name: "ones and a giant",

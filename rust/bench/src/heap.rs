@@ -158,6 +158,7 @@ fn withdraw(method: Method, populations: &[u64], seats: &mut [u64], count: u64) 
 }
 
 /// Largest remainders without sorting all of them: those with a seat are parted from the others.
+/// Of equal remainders the larger population comes first, of equal populations the earlier state.
 pub fn parted_remainders(_: Method, house: u64, populations: &[u64], seats: &mut [u64]) {
     check_problem(populations, house).expect("a sound problem");
     let sum: u64 = populations.iter().sum();
@@ -166,7 +167,7 @@ pub fn parted_remainders(_: Method, house: u64, populations: &[u64], seats: &mut
     for (i, &p) in populations.iter().enumerate() {
         seats[i] = p * house / sum;
         left -= seats[i];
-        remainders.push((Reverse(p * house % sum), i));
+        remainders.push((Reverse((p * house % sum, p)), i));
     }
     if left > 0 {
         remainders.select_nth_unstable(left as usize);

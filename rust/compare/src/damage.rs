@@ -52,14 +52,17 @@ impl Draft {
 
 /// A sound register: any method, names of every accepted kind, either line end, leading zeros.
 pub fn sound(random: &mut Random) -> Draft {
-    let (populations, house) = problem::problem(random);
-    let house = match random.below(12) {
-        0 => random.from(1, house),
-        _ => house,
-    };
+    let (mut populations, mut house) = problem::problem(random);
+    if random.below(12) == 0 {
+        house = random.from(1, house);
+    }
     let style = random.below(5);
+    let method = random.pick(&METHODS);
+    if method == "remainders" && random.once_in(2) {
+        (populations, house) = problem::equal_remainders(random);
+    }
     let names: Vec<String> = (0..populations.len()).map(|i| name(style, i)).collect();
-    let mut draft = Draft::plain(random.pick(&METHODS), house, &names, &populations);
+    let mut draft = Draft::plain(method, house, &names, &populations);
     if random.once_in(4) {
         let always = random.once_in(2);
         for end in &mut draft.ends {

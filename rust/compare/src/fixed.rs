@@ -47,10 +47,10 @@ fn at_every_byte(register: &[u8]) -> Vec<Vec<u8>> {
     all
 }
 
-/// The allotments, placings and departures that the document names, and some where moves are
-/// parted by register order alone.
+/// The allotments, placings and departures that the document names, some where moves are parted by
+/// register order alone, and some where equal remainders are parted by population.
 fn examples() -> Vec<Case> {
-    let problems: [(u64, &[u64]); 18] = [
+    let problems: [(u64, &[u64]); 23] = [
         (20, &[26, 27, 28, 29, 91]),
         (14, &[69, 70, 150]),
         (15, &[69, 70, 150]),
@@ -69,6 +69,11 @@ fn examples() -> Vec<Case> {
         (6, &[238, 140, 252]),
         (5, &[252, 140, 133]),
         (8, &[3, 5, 10]),
+        (4, &[4, 1, 7]),
+        (8, &[1, 4, 7]),
+        (4, &[1, 1, 5, 1]),
+        (5, &[1, 2, 3, 7, 12]),
+        (9_999, &[257_724, 1_431_913_489, 2_862_796_082]),
     ];
     let mut cases = Vec::new();
     for (house, populations) in problems {

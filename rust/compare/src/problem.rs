@@ -1,5 +1,5 @@
 //! Sound problems for allotting: populations and a house, with a liking for equal departures,
-//! equal quotients and the limits.
+//! equal quotients, equal remainders and the limits.
 
 use crate::random::Random;
 
@@ -129,4 +129,31 @@ fn equally_near(random: &mut Random) -> (Vec<u64>, u64) {
         _ => natural,
     };
     (populations, house.max(n))
+}
+
+/// States of different populations that have one of two remainders of p × H by P, and one more
+/// that makes the sum: P is a unit times a divisor of the house, so that populations a multiple of
+/// the unit apart have the same remainder.
+pub fn equal_remainders(random: &mut Random) -> (Vec<u64>, u64) {
+    let n = states(random).max(3);
+    let most = random.from(1, 4);
+    // The parts of the sum are more than all populations but one can have.
+    let parts = (most + 1) * n + random.below(20);
+    let unit = match random.below(3) {
+        0 => SUM_LIMIT / parts,
+        1 => random.from(1, SUM_LIMIT / parts),
+        _ => random.from(1, 12),
+    };
+    let classes = [random.from(1, unit), random.from(1, unit)];
+    let mut populations: Vec<u64> = (1..n)
+        .map(|_| random.pick(&classes) + unit * random.below(most + 1))
+        .collect();
+    let last = unit * parts - populations.iter().sum::<u64>();
+    let at = random.below(n) as usize;
+    populations.insert(at, last);
+    let house = match random.below(2) {
+        0 => parts,
+        _ => parts * random.from(1, 9_999 / parts),
+    };
+    (populations, house)
 }

@@ -95,11 +95,15 @@ fn any_problem(random: &mut Random) -> (Vec<u64>, u64) {
 }
 
 fn allot(random: &mut Random) -> Case {
-    let (populations, house) = any_problem(random);
+    let (mut populations, mut house) = any_problem(random);
     let method = match random.below(40) {
         0 => random.wild(),
         1 => random.from(6, 8),
         2..=8 => 0,
+        9..=13 => {
+            (populations, house) = problem::equal_remainders(random);
+            6
+        }
         _ => random.below(7),
     };
     let n = populations.len();

@@ -106,13 +106,15 @@ fn first_claims(method: Method, populations: &[u64], house: u64) -> Vec<u64> {
 }
 
 /// The whole part of p × H / P for each state; the seats left go one each to the largest
-/// remainders, equal ones in register order.
+/// remainders, of equal ones to the largest populations, and only then in register order.
 fn largest_remainders(populations: &[u64], house: u64) -> Vec<u64> {
     let sum: u64 = populations.iter().sum();
     let mut seats: Vec<u64> = populations.iter().map(|p| p * house / sum).collect();
     let left = house - seats.iter().sum::<u64>();
     let mut order: Vec<usize> = (0..seats.len()).collect();
-    order.sort_by_key(|&i| Reverse(populations[i] * house % sum));
+    let remainder = |i: usize| populations[i] * house % sum;
+    // Sorting keeps register order where both are equal.
+    order.sort_by_key(|&i| Reverse((remainder(i), populations[i])));
     for &i in &order[..left as usize] {
         seats[i] += 1;
     }
@@ -154,6 +156,74 @@ mod tests {
                 }
             }
         }
+    }
+
+    /// Largest remainders by their words: one state after another has a seat that is left, each
+    /// time the one that no other without such a seat comes before.
+    fn served_in_turn(populations: &[u64], house: u64) -> Vec<u64> {
+        let sum: u64 = populations.iter().sum();
+        let shares = populations
+            .iter()
+            .map(|p| (p * house / sum, p * house % sum));
+        let (mut seats, remainders): (Vec<u64>, Vec<u64>) = shares.unzip();
+        let before = |j: usize, i: usize| {
+            if remainders[j] != remainders[i] {
+                remainders[j] > remainders[i]
+            } else if populations[j] != populations[i] {
+                populations[j] > populations[i]
+            } else {
+                j < i
+            }
+        };
+        let mut waiting: Vec<usize> = (0..seats.len()).collect();
+        for _ in seats.iter().sum::<u64>()..house {
+            let is_next = |&i: &usize| !waiting.iter().any(|&j| before(j, i));
+            let next = waiting.iter().position(is_next).expect("a first state");
+            seats[waiting.remove(next)] += 1;
+        }
+        seats
+    }
+
+    #[test]
+    fn sorting_serves_the_states_in_turn() {
+        for code in 0..6u64.pow(4) {
+            let populations: Vec<u64> = (0..4).map(|k| 1 + code / 6u64.pow(k) % 6).collect();
+            for house in 1..15 {
+                assert_eq!(
+                    largest_remainders(&populations, house),
+                    served_in_turn(&populations, house),
+                    "{populations:?} {house}"
+                );
+            }
+        }
+    }
+
+    #[test]
+    fn of_equal_remainders_the_larger_population_has_the_seat() {
+        assert_eq!(largest_remainders(&[1, 3], 2), [0, 2]);
+        assert_eq!(largest_remainders(&[3, 1], 2), [2, 0]);
+        // Three remainders of 4 and one seat, three of 8 and two seats.
+        assert_eq!(largest_remainders(&[4, 1, 7], 4), [1, 0, 3]);
+        assert_eq!(largest_remainders(&[1, 4, 7], 8), [0, 3, 5]);
+        // Remainders 5, 10, 15, 10, 10 and two seats.
+        assert_eq!(largest_remainders(&[1, 2, 3, 7, 12], 5), [0, 0, 1, 1, 3]);
+        // The limits: two remainders of 2,576,982,276, a larger one, and two seats.
+        let populations = [257_724, 1_431_913_489, 2_862_796_082];
+        assert_eq!(populations.iter().sum::<u64>(), SUM_LIMIT);
+        assert_eq!(largest_remainders(&populations, 9_999), [0, 3_334, 6_665]);
+    }
+
+    #[test]
+    fn of_equal_populations_too_the_earlier_state_has_the_seat() {
+        assert_eq!(largest_remainders(&[3, 3], 3), [2, 1]);
+        assert_eq!(largest_remainders(&[5, 5, 5], 2), [1, 1, 0]);
+        assert_eq!(largest_remainders(&[1, 1, 5, 1], 4), [1, 0, 3, 0]);
+    }
+
+    #[test]
+    fn the_larger_remainder_comes_before_the_larger_population() {
+        // Remainders 9 and 1.
+        assert_eq!(largest_remainders(&[3, 7], 3), [1, 2]);
     }
 
     #[test]

@@ -57,7 +57,7 @@ fn of_equal_withdrawals_the_later_state_gives_up() {
 fn other_methods() {
     assert_eq!(seats(Webster, 2, &[1, 99]), [0, 2]);
     assert_eq!(seats(Adams, 2, &[1, 99]), [1, 1]);
-    assert_eq!(seats(Remainders, 2, &[1, 3]), [1, 1]);
+    assert_eq!(seats(Remainders, 2, &[1, 3]), [0, 2]);
 }
 
 #[test]

@@ -8,10 +8,10 @@ use Rattle.bar.proofs.bar_of.Statement.{statement}
 use Rattle.bar.proofs.bar_of.Tie as tie
 
 abbrev Inv-loop : tie.InvT-loop
-Inv-loop precedences left least greatest states few most guess range₀ range = HoldsBar precedences left range
+Inv-loop precedences left least greatest states few most guess second range₀ range = HoldsBar precedences left range
 
 abbrev μ-loop : tie.MeasureT-loop
-μ-loop precedences left least greatest states few most guess range₀ range = range .high - range .low
+μ-loop precedences left least greatest states few most guess second range₀ range = range .high - range .low
 
 sub-most : tie.Need-sub-most Inv-loop μ-loop
 sub-most c = search needs
@@ -25,22 +25,23 @@ returns c =
 first-guess-requires : tie.Need-first-guess-requires Inv-loop μ-loop
 first-guess-requires c κs = search needs
 
+in-order-requires : tie.Need-in-order-requires Inv-loop μ-loop
+in-order-requires c κs = search needs
+
 parted-requires : tie.Need-parted-requires Inv-loop μ-loop
 parted-requires c κs =
-    let start = c .before .before .before in (
+    let guessed = c .before in
+    let start = guessed .before .before .before in (
       whole-holds-bar (start .args .precedences .now) (start .args .left) _ _ _ _ (start .pre),
-      c .first-guess .ensures .0,
-      c .first-guess .ensures .1,
+      guessed .first-guess .ensures .0,
+      guessed .first-guess .ensures .1,
     )
 
 loop-holds : tie.Need-loop-holds Inv-loop μ-loop
 loop-holds c = c .parted .ensures .0
 
-sub-middle : tie.Need-sub-middle Inv-loop μ-loop
-sub-middle c = search needs
-
-add-middle : tie.Need-add-middle Inv-loop μ-loop
-add-middle c = search needs
+next-guess-requires : tie.Need-next-guess-requires Inv-loop μ-loop
+next-guess-requires c κs = search needs
 
 parted-requires-2 : tie.Need-parted-requires-2 Inv-loop μ-loop
 parted-requires-2 c κs = search needs
@@ -54,7 +55,8 @@ loop-again c = c .parted2 .ensures .0
 returns-2 : tie.Need-returns-2 Inv-loop μ-loop
 returns-2 c =
     let at-loop = c .before .before in
-    let start = at-loop .before .before .before .before .before in
+    let guessed = at-loop .before .before .before in
+    let start = guessed .before .before .before in
     one-number-is-bar (start .args .precedences .now) (start .args .left) _ (at-loop .loop .inv) (c .if2 .left)
 
 pub bar-of-spec : {M : Type 1} → statement M
@@ -66,10 +68,10 @@ bar-of-spec =
     sub-most
     returns
     first-guess-requires
+    in-order-requires
     parted-requires
     loop-holds
-    sub-middle
-    add-middle
+    next-guess-requires
     parted-requires-2
     loop-less
     loop-again

@@ -12,7 +12,7 @@ use Rattle.apportionment.specs.inner.Lists.{sum-listOf-more}
 use Rattle.apportionment.specs.inner.Problem.{sum-above-zero}
 use Rattle.apportionment.specs.inner.Filling.{FilledTo, fill-starts, fill-goes-on, fill-ends}
 use Rattle.remainders.specs.inner.WholeParts.{share-fits, whole-part-is, whole-parts-within}
-use Rattle.remainders.specs.inner.Precedence.{precedenceOf, precedenceAt}
+use Rattle.remainders.specs.inner.Precedence.{precedenceOf, precedenceAt, state-share}
 use Rattle.remainders.specs.inner.Seats.{Spans, spans-none, spans-on}
 use Rattle.remainders.proofs.fill_parts.Statement.{statement}
 use Rattle.remainders.proofs.fill_parts.Tie as tie
@@ -56,7 +56,7 @@ precedence-requires : tie.Need-precedence-requires Inv-loop μ-loop
 precedence-requires c κs =
     let at-loop = c .before .before in
     let start = at-loop .before .before .before .before in
-    (share-fits (start .pre .0 .problem) (at-loop .loop .i) .fits, refl)
+    state-share (start .pre .0 .problem) (at-loop .loop .i)
 
 mul-seats : tie.Need-mul-seats Inv-loop μ-loop
 mul-seats c = search needs

@@ -45,7 +45,9 @@ returns c =
     let given = c .before .before in
     let lists = given .before .before .before .before .before in
     let filled = lists .before .before .before in
-    given .give-left .ensures ∙ seats-are-allotted (filled .fill-parts .ensures)
+    let lent = filled .before .before .before in
+    let start = lent .before .before .before in
+    given .give-left .ensures ∙ seats-are-allotted (start .pre .0 .problem) (filled .fill-parts .ensures)
 
 pub fill-with-room-spec : {M : Type 1} → statement M
 fill-with-room-spec =

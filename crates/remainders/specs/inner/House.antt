@@ -65,4 +65,4 @@ seats-sum-to-house {ps} {P} {H} ok =
     = rw same (extras-are-left xs left (omega (arith, left-within-states ok))) in
     let parts : sum (listOf (λ (i : ℕ). getD wholes i 0) (length wholes)) ≡ sum wholes = ap sum (listOf-places wholes) in
     let both = sum-listOf-both (λ (i : ℕ). getD wholes i 0) (extraIn xs left) (length wholes) in
-    ap sum (sym (parts-are-allotted ps H)) ∙ both ∙ omega (arith, whole-parts-within ok (length ps))
+    ap sum (sym (parts-are-allotted (ok .states) H)) ∙ both ∙ omega (arith, whole-parts-within ok (length ps))

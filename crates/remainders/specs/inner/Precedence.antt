@@ -4,19 +4,55 @@
 use mathlib.Core.Path.{_≡_, refl, sym}
 use mathlib.Core.Bool.{Bool, true, false, cond}
 use mathlib.Core.List.{List}
-use Prim.Native.Nat.{ℕ, _+_, _*_, _%_, _≤_, _<_}
+use Prim.Native.Nat.{ℕ, suc, _+_, _-_, _*_, _/_, _%_, _≤_, _<_}
 use native.Mathlib.Omega.{arith}
+use native.Mathlib.Nat.{le-refl, suc-mul, mul-le-mul-right}
 use lib.Dec.{ltb, leb}
 use lib.ListN.{length, getD}
+use mir.Syntax.{w64}
+use mir.Val.{Fits}
 use borrow.Author.Tests.{ltb-true, ltb-false, lt-ltb, le-ltb, le-leb, lt-leb}
+use Rattle.apportionment.specs.Limits.{sumLimit}
 use Rattle.apportionment.specs.Lists.{sum, countBelow, listOf}
 use Rattle.apportionment.specs.Remainders.{remainder, servedBefore, rank}
+use Rattle.apportionment.specs.inner.Tests.{either-way}
+use Rattle.apportionment.specs.inner.Problem.{States, Problem, sum-above-zero, entry-at-most-total}
+use Rattle.apportionment.specs.inner.MachineWords.{product-fits}
 use Rattle.apportionment.specs.inner.Lists.{length-listOf, getD-listOf, count-agrees, count-splits}
 use Rattle.bar.specs.inner.Reaching.{reaches}
+use Rattle.remainders.specs.inner.WholeParts.{share-fits}
 
--- The precedence of a state of population p: its remainder.
+-- What a remainder counts in a precedence: more than any population.
+abbrev pub remainderWeight : ℕ
+remainderWeight = sumLimit + 1
+
+-- The precedence of a state of population p: its remainder, and among equal remainders its population.
 unfoldable pub precedenceOf : (p P H : ℕ) → ℕ
-precedenceOf p P H = p * H % P
+precedenceOf p P H = p * H % P * remainderWeight + p
+
+-- A state's share of the house as it is worked out, with its whole part: the numbers from which its precedence is made.
+pub record Share (p whole P H : ℕ) : Type 0 where
+  pub fits : Fits w64 (p * H)
+  pub wholeIs : whole ≡ p * H / P
+  pub someone : 0 < P
+  pub people : p ≤ P
+  pub sumWithin : P ≤ sumLimit
+
+pub state-share : {ps : List ℕ} {P H : ℕ} → Problem ps P H → (i : ℕ) → Share (getD ps i 0) (getD ps i 0 * H / P) P H
+state-share ok i = record {
+  fits = share-fits ok i;
+  wholeIs = refl;
+  someone = sum-above-zero (ok .states);
+  people = entry-at-most-total (ok .states) i;
+  sumWithin = ok .states .sumWithin;
+}
+
+-- A number up to the largest sum has room for its weight, and for another such number beside it.
+pub weighted-fits : {x : ℕ} → x ≤ sumLimit → Fits w64 (x * remainderWeight)
+weighted-fits within = product-fits sumLimit remainderWeight within (le-refl remainderWeight) tt
+
+pub weighted-leaves-room : {x y : ℕ} → x ≤ sumLimit → y ≤ sumLimit → Fits w64 (x * remainderWeight + y)
+weighted-leaves-room within beside = record { fits = omega (arith, mul-le-mul-right remainderWeight within, beside) }
 
 -- The precedences of all states.
 abbrev pub precedenceAt : (ps : List ℕ) (H i : ℕ) → ℕ
@@ -48,23 +84,63 @@ withExtra xs left seats = listOf (withExtraAt xs left seats) (length seats)
 
 -- ---- the method's order is that of precedences
 
+-- Of two numbers made of a first part, weighted, and a second one below the weight, the first parts decide and, where these are equal, the
+-- second.
+weighted-test : (w r s p q : ℕ) → p < w → q < w
+    → ltb (r * w + p) (s * w + q) ≡ cond (ltb r s) true (cond (ltb s r) false (ltb p q))
+weighted-test w r s p q hp hq =
+    either-way (ltb r s)
+    (λ less.
+    let one-more : suc r * w ≤ s * w = mul-le-mul-right w (ltb-true r s less) in
+    rw less (lt-ltb (r * w + p) (s * w + q) (omega (arith, one-more, suc-mul r w))))
+    (λ not-less. either-way (ltb s r)
+    (λ more.
+    let one-more : suc s * w ≤ r * w = mul-le-mul-right w (ltb-true s r more) in
+    rw (not-less, more) (le-ltb (r * w + p) (s * w + q) (omega (arith, one-more, suc-mul s w))))
+    (λ not-more.
+    let same : r ≡ s = omega (arith, ltb-false r s not-less, ltb-false s r not-more) in
+    rw (not-less, not-more) (rw same (added-test (s * w) p q))))
+  where
+    added-test : (x a b : ℕ) → ltb (x + a) (x + b) ≡ ltb a b
+    added-test x a b =
+        either-way (ltb a b)
+        (λ less. rw less (lt-ltb (x + a) (x + b) (omega (arith, ltb-true a b less))))
+        (λ not-less. rw not-less (le-ltb (x + a) (x + b) (omega (arith, ltb-false a b not-less))))
+
+-- Two tests in turn are one test of both, read from either side.
+tests-in-turn : (a b c d e : Bool) → cond a true (cond b false (cond c true (cond d false e)))
+    ≡ cond (cond a true (cond b false c)) true (cond (cond b true (cond a false d)) false e)
+tests-in-turn true b c d e = refl
+tests-in-turn false true c d e = refl
+tests-in-turn false false c d e = refl
+
+below-weight : {ps : List ℕ} {P : ℕ} → States ps P → (i : ℕ) → getD ps i 0 < remainderWeight
+below-weight k i = omega (arith, entry-at-most-total k i, k .sumWithin)
+
 -- A state is served before another exactly if its precedence says so.
-pub precedence-decides : (ps : List ℕ) (H i j : ℕ) → i < length ps → j < length ps
+pub precedence-decides : {ps : List ℕ} {P : ℕ} → States ps P → (H i j : ℕ) → i < length ps → j < length ps
     → servedBefore ps H i j ≡ precedes (precedencesOf ps H) i j
 unfolding servedBefore remainder precedes precedenceOf
-precedence-decides ps H i j hi hj =
-    simp (getD-listOf (precedenceAt ps H) (length ps) i hi, getD-listOf (precedenceAt ps H) (length ps) j hj)
+precedence-decides {ps} k H i j hi hj =
+    let r : ℕ → ℕ = λ (n : ℕ). getD ps n 0 * H % sum ps in
+    rw (
+      getD-listOf (precedenceAt ps H) (length ps) i hi,
+      getD-listOf (precedenceAt ps H) (length ps) j hj,
+      weighted-test remainderWeight (r i) (r j) (getD ps i 0) (getD ps j 0) (below-weight k i) (below-weight k j),
+      weighted-test remainderWeight (r j) (r i) (getD ps j 0) (getD ps i 0) (below-weight k j) (below-weight k i),
+    )
+    (tests-in-turn (ltb (r i) (r j)) (ltb (r j) (r i)) (ltb (getD ps i 0) (getD ps j 0)) (ltb (getD ps j 0) (getD ps i 0)) (ltb j i))
 
 -- So ranks are those of the precedences.
-pub rank-is : (ps : List ℕ) (H i : ℕ) → i < length ps → rank ps H i ≡ rankIn (precedencesOf ps H) i
+pub rank-is : {ps : List ℕ} {P : ℕ} → States ps P → (H i : ℕ) → i < length ps → rank ps H i ≡ rankIn (precedencesOf ps H) i
 unfolding rank rankIn
-rank-is ps H i hi =
+rank-is {ps} k H i hi =
     rw (length-listOf (precedenceAt ps H) (length ps))
     (count-agrees
     (servedBefore ps H i)
     (precedes (precedencesOf ps H) i)
     (length ps)
-    (λ (j : ℕ) (hj : j < length ps). precedence-decides ps H i j hi hj))
+    (λ (j : ℕ) (hj : j < length ps). precedence-decides k H i j hi hj))
 
 -- ---- a rank is two counts of plain comparisons
 

@@ -14,7 +14,7 @@ use Rattle.apportionment.specs.Remainders.{wholePart, seatsLeft, remainderSeats
 use Rattle.apportionment.specs.inner.Lists.{length-listOf, getD-listOf, is-listOf, listOf-agrees, sum-listOf-more}
 use Rattle.apportionment.specs.inner.Filling.{FilledTo}
 use Rattle.apportionment.specs.inner.Tests.{either-way}
-use Rattle.apportionment.specs.inner.Problem.{Problem}
+use Rattle.apportionment.specs.inner.Problem.{States, Problem}
 use Rattle.remainders.specs.inner.WholeParts.{wholeParts, whole-parts-within, left-within-states}
 use Rattle.remainders.specs.inner.Precedence.{precedenceAt, precedencesOf, extraIn, rank-is, withExtraAt, withExtra}
 use Rattle.bar.specs.inner.Reaching.{all-reach, none-above}
@@ -182,20 +182,21 @@ served-by-found-bar seats {xs} {after} {left} {r} found same e =
     ap (λ (x : ℕ). getD seats i 0 + x) (rw (found .counted) (served-by-rank xs left (r .low) (found .bar) i (omega arith))))
 
 -- At each place, a whole part with the seat beyond it is the definition's number.
-seat-is-allotted : (ps : List ℕ) (H i : ℕ) → i < length ps
+seat-is-allotted : {ps : List ℕ} {P : ℕ} → States ps P → (H i : ℕ) → i < length ps
     → withExtraAt (precedencesOf ps H) (seatsLeft ps H) (wholeParts ps H) i ≡ remainderSeatsAt ps H i
 unfolding remainderSeatsAt extraIn
-seat-is-allotted ps H i h = rw (getD-listOf (wholePart ps H) (length ps) i h, rank-is ps H i h)
+seat-is-allotted {ps} k H i h = rw (getD-listOf (wholePart ps H) (length ps) i h, rank-is k H i h)
 
-pub parts-are-allotted : (ps : List ℕ) (H : ℕ) → withExtra (precedencesOf ps H) (seatsLeft ps H) (wholeParts ps H) ≡ remainderSeats ps H
+pub parts-are-allotted : {ps : List ℕ} {P : ℕ} → States ps P → (H : ℕ)
+    → withExtra (precedencesOf ps H) (seatsLeft ps H) (wholeParts ps H) ≡ remainderSeats ps H
 unfolding remainderSeats
-parts-are-allotted ps H =
+parts-are-allotted {ps} k H =
     is-listOf
     (withExtra (precedencesOf ps H) (seatsLeft ps H) (wholeParts ps H))
     (remainderSeatsAt ps H)
     (length ps)
     (length-listOf each (length (wholeParts ps H)) ∙ long)
-    (λ (i : ℕ) (h : i < length ps). getD-listOf each (length (wholeParts ps H)) i (omega (arith, long)) ∙ seat-is-allotted ps H i h)
+    (λ (i : ℕ) (h : i < length ps). getD-listOf each (length (wholeParts ps H)) i (omega (arith, long)) ∙ seat-is-allotted k H i h)
   where
     each : ℕ → ℕ
     each = withExtraAt (precedencesOf ps H) (seatsLeft ps H) (wholeParts ps H)
@@ -203,7 +204,8 @@ parts-are-allotted ps H =
     long : length (wholeParts ps H) ≡ length ps
     long = length-listOf (wholePart ps H) (length ps)
 
-pub seats-are-allotted : {ps : List ℕ} {H : ℕ} {xs seats : List ℕ} {r : Parts} → Filled ps H xs seats r
+pub seats-are-allotted : {ps : List ℕ} {P H : ℕ} {xs seats : List ℕ} {r : Parts} → Problem ps P H → Filled ps H xs seats r
     → withExtra xs (H - r .given) seats ≡ remainderSeats ps H
 unfolding seatsLeft
-seats-are-allotted {ps} {H} filled = rw (filled .precedencesAre, filled .seatsAre, filled .givenIs) (parts-are-allotted ps H)
+seats-are-allotted {ps} {P} {H} ok filled =
+    rw (filled .precedencesAre, filled .seatsAre, filled .givenIs) (parts-are-allotted (ok .states) H)
