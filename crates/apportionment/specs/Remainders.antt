@@ -1,4 +1,4 @@
--- Document 01, "The other methods": largest remainders, by rank.
+-- Largest remainders, by rank: document 01, "The other methods", with the order that the electoral act (W-202) sets for equal remainders.
 -- Assumes nothing.
 use mathlib.Core.Bool.{Bool, true, false, cond}
 use mathlib.Core.List.{List}
