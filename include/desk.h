@@ -26,7 +26,8 @@ extern "C" {
    number (crates/listing/specs/inner/Room.antt, listingRoom). */
 #define DESK_LISTING_ROOM (30 + DESK_STATES_LIMIT * 64 + 22)
 
-/* The methods. */
+/* The methods. Under largest remainders, of equal remainders the larger population has the seat, and
+   of equal populations too the earlier state. */
 enum {
     DESK_LEXIMIN = 0,
     DESK_ADAMS = 1,

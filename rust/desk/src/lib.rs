@@ -53,7 +53,8 @@ fn outcome(number: u64, line: u64) -> Result<(), Refusal> {
     }
 }
 
-/// The seven methods, in the order of their numbers.
+/// The seven methods, in the order of their numbers. Under largest remainders, of equal remainders
+/// the larger population has the seat, and of equal populations too the earlier state.
 #[derive(Clone, Copy, Debug, PartialEq, Eq)]
 pub enum Method {
     Leximin,
