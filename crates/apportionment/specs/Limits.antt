@@ -4,11 +4,11 @@ use Prim.Native.Nat.{ℕ}
 
 -- The most states a register may have (n).
 abbrev pub stateLimit : ℕ
-stateLimit = 250
+stateLimit = 800
 
 -- The largest house (H).
 abbrev pub houseLimit : ℕ
-houseLimit = 9999
+houseLimit = 30000
 
 -- The largest sum of populations (P).
 abbrev pub sumLimit : ℕ

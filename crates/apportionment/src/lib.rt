@@ -27,9 +27,9 @@ pub enum Mark {
 }
 
 // The limits, each also named in specs/Limits.antt.
-pub const STATE_LIMIT: usize = 250;
+pub const STATE_LIMIT: usize = 800;
 
-pub const HOUSE_LIMIT: u64 = 9_999;
+pub const HOUSE_LIMIT: u64 = 30_000;
 
 pub const SUM_LIMIT: u64 = 4_294_967_295;
 

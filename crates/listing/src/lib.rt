@@ -15,11 +15,11 @@ ghost use Rattle.listing.specs.inner.Room.{AllListable};
 ghost use Rattle.listing.specs.inner.Listed.{GoodReading, HandedOver};
 
 // The room of the longest head, line of a state and line of totals; specs/inner/Room.antt says what each is made of.
-const HEAD_ROOM: usize = 30;
+const HEAD_ROOM: usize = 31;
 
-const LINE_ROOM: usize = 64;
+const LINE_ROOM: usize = 66;
 
-const TOTAL_ROOM: usize = 22;
+const TOTAL_ROOM: usize = 23;
 
 // Room for every listing there is, as specs/inner/Room.antt shows; a listing is written there first, so that a buffer that is too short
 // stays as it is.

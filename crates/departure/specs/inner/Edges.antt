@@ -93,8 +93,8 @@ atTheEdges =
     ∷ (departure 25001 1 50000 2 gives Shown (pos 0) In)
     ∷ (departure 24999 1 50000 2 gives Shown (pos 0) In)
     -- the largest departures
-    ∷ (departure 4294967295 1 4294967295 9999 gives Shown (pos 99980000) Over)
-    ∷ (departure 1 9999 4294967295 9999 gives Shown (negsuc 9999) Over)
+    ∷ (departure 4294967295 1 4294967295 30000 gives Shown (pos 299990000) Over)
+    ∷ (departure 1 30000 4294967295 30000 gives Shown (negsuc 9999) Over)
     -- no seat, and each refusal beside what is still taken
     ∷ (departure 5 0 10 3 gives NoSeats)
     ∷ (departure 5 3 10 3 gives Shown (negsuc 4999) Over)
@@ -103,7 +103,7 @@ atTheEdges =
     ∷ (departure 10 1 10 3 gives Shown (pos 20000) Over)
     ∷ (departure 11 1 10 3 gives Refused)
     ∷ (departure 5 1 10 0 gives Refused)
-    ∷ (departure 5 0 10 10000 gives Refused)
+    ∷ (departure 5 0 10 30001 gives Refused)
     ∷ (departure 5 1 0 3 gives Refused)
     ∷ (departure 5 1 4294967296 3 gives Refused)
     ∷ []

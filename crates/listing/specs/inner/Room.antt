@@ -20,17 +20,17 @@ use Rattle.departure.specs.inner.Answer.{InLimits, AllInLimits}
 use Rattle.listing.specs.Listing.{headLine, stateLine, stateLines, populationsIn, listingIn}
 
 -- The room that each kind of line takes: its fields at their longest, its commas and its line end.
---   head: the word and the method 10 each, the house 4, the number of states 3;
---   state: the name 32, the population 10, the seats 4, the departure 9, the mark 4;
---   total: the word 5, the sum 10, the seats 4.
+--   head: the word and the method 10 each, the house 5, the number of states 3;
+--   state: the name 32, the population 10, the seats 5, the departure 10, the mark 4;
+--   total: the word 5, the sum 10, the seats 5.
 abbrev pub headRoom : ℕ
-headRoom = 30
+headRoom = 31
 
 abbrev pub lineRoom : ℕ
-lineRoom = 64
+lineRoom = 66
 
 abbrev pub totalRoom : ℕ
-totalRoom = 22
+totalRoom = 23
 
 -- The room that every listing has enough of.
 abbrev pub listingRoom : ℕ

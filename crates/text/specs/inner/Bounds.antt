@@ -33,12 +33,12 @@ decimal-length (suc k) n bound =
 pub decimal-of-u64 : (n : ℕ) → n < 2 ^ 64 → length (decimal n) ≤ 20
 decimal-of-u64 n bound = decimal-length 19 n (omega arith)
 
--- A population, or a sum of them, has at most 10 digits, a house or seats 4, and a number of states 3.
+-- A population, or a sum of them, has at most 10 digits, a house or seats 5, and a number of states 3.
 pub decimal-of-sum : (n : ℕ) → n ≤ sumLimit → length (decimal n) ≤ 10
 decimal-of-sum n bound = decimal-length 9 n (omega arith)
 
-pub decimal-of-house : (n : ℕ) → n ≤ houseLimit → length (decimal n) ≤ 4
-decimal-of-house n bound = decimal-length 3 n (omega arith)
+pub decimal-of-house : (n : ℕ) → n ≤ houseLimit → length (decimal n) ≤ 5
+decimal-of-house n bound = decimal-length 4 n (omega arith)
 
 pub decimal-of-states : (n : ℕ) → n ≤ stateLimit → length (decimal n) ≤ 3
 decimal-of-states n bound = decimal-length 2 n (omega arith)

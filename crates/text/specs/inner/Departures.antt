@@ -46,14 +46,14 @@ module _ {p a P H : ℕ} {answer : Answer} (within : InLimits p a P H) (is : Ans
 
 -- ---- how long it can be
 
--- The room of a departure. Above the average it is at most the largest house less one: 9998 wholes, so six digits, a point and two more.
+-- The room of a departure. Above the average it is at most the largest house less one: 29999 wholes, so seven digits, a point and two more.
 -- Below it is at most one hundred per cent, so that the sign finds room there.
 abbrev pub departureRoom : ℕ
-departureRoom = 9
+departureRoom = 10
 
 above-length : (h : ℕ) → h ≤ 10000 * (houseLimit - 1) → length (shownText (pos h)) ≤ departureRoom
 unfolding shownText
-above-length h most = omega (arith, hundredths-length h, decimal-length 5 (h / 100) (omega arith))
+above-length h most = omega (arith, hundredths-length h, decimal-length 6 (h / 100) (omega arith))
 
 below-length : (h : ℕ) → h ≤ 10000 → length (shownText (negℤ (pos h))) ≤ departureRoom
 unfolding shownText
