@@ -5,7 +5,6 @@ ghost use mathlib.Core.Path.{_≡_};
 ghost use Prim.Native.Nat.{_+_};
 ghost use Rattle.apportionment.specs.Quantities.{less, sizeOf};
 ghost use Rattle.claims.specs.inner.SizeClaims.{sizeBefore};
-ghost use Rattle.claims.specs.inner.SizeQuotients.{risesBefore};
 ghost use Rattle.sizes.specs.inner.Sizes.{WithSeats};
 ghost use Rattle.sizes.specs.inner.Quotients.{ClimbingClaim, FallingClaim};
 
@@ -19,37 +18,26 @@ fn rises(population: u64, seats: u64, total: u64, house: u64) -> bool
     size_less(present, next)
 }
 
-// Of two rising claims, that of population p with a seats comes before that of q with b.
-fn rises_before(p: u64, a: u64, q: u64, b: u64, total: u64, house: u64) -> bool
-    requires { ⌜ WithSeats p (a + 1) total house × WithSeats q (b + 1) total house ⌝ }
-    ensures { λ r. ⌜ r ≡ risesBefore total house p a q b ⌝ }
-{
-    let own = p * (b + 1);
-    let other = q * (a + 1);
-    if other < own {
-        return true;
-    }
-    if own < other {
-        return false;
-    }
-    let own_size = size_of(p, a, total, house);
-    let other_size = size_of(q, b, total, house);
-    size_less(other_size, own_size)
-}
-
-// Of two claims at or above the start, that of population p with a seats comes before that of q with b: level claims come first.
+// Of two claims at or above the start, that of population p with a seats comes before that of q with b: level claims come first, then the
+// larger quotient. The quotients are looked at first, since they leave at most one state's sizes to look at in nearly every case.
 pub fn climbs_before(p: u64, a: u64, q: u64, b: u64, total: u64, house: u64) -> bool
     requires { ⌜ ClimbingClaim p a total house × ClimbingClaim q b total house ⌝ }
     ensures { λ r. ⌜ r ≡ sizeBefore total house p a q b ⌝ }
 {
-    let other = rises(q, b, total, house);
-    if rises(p, a, total, house) {
-        if other {
-            return rises_before(p, a, q, b, total, house);
-        }
-        return false;
+    let own = p * (b + 1);
+    let other = q * (a + 1);
+    if other < own {
+        return rises(q, b, total, house);
     }
-    other
+    if own < other {
+        if rises(p, a, total, house) {
+            return false;
+        }
+        return rises(q, b, total, house);
+    }
+    let own_size = size_of(p, a, total, house);
+    let other_size = size_of(q, b, total, house);
+    size_less(other_size, own_size)
 }
 
 // Of two claims below the start, that of population p with a seats comes before that of q with b.

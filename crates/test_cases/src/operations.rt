@@ -23,7 +23,7 @@ use placing::Placing;
 ghost use Rattle.io.specs.Counts.{Counts};
 
 // Room for a list of more states than there may be, and for the longest buffer that is lent.
-const LIST_ROOM: usize = 300;
+const LIST_ROOM: usize = STATE_LIMIT + 1;
 
 const BUFFER_ROOM: usize = 300;
 

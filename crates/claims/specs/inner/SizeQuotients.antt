@@ -1,7 +1,8 @@
--- Leximin's claims by quotients. At or above a state's start no claim falls, and rising claims come in the order of p / (a + 1); below it
--- every claim falls, and claims come in the order of p / a. So two products part most claims, and sizes only those of equal quotients.
+-- Leximin's claims by quotients. At or above a state's start no claim falls, and rising claims come in the order of p / (a + 1), after those
+-- that are level; below it every claim falls, and claims come in the order of p / a. So two products part most claims, with a look at one
+-- state's sizes where some may be level, and the present sizes part only those of equal quotients.
 -- Assumes nothing.
-use mathlib.Core.Path.{_≡_, _∙_}
+use mathlib.Core.Path.{_≡_, refl, sym, _∙_}
 use mathlib.Core.Bool.{Bool, true, false, cond}
 use Prim.Native.Nat.{ℕ, suc, _+_, _*_, _<_, _≤_}
 use native.Mathlib.Nat.{mul-pos, mul-lt-mul-of-pos-right, mul-le-mul-right, lt-of-mul-lt-mul-right}
@@ -10,8 +11,10 @@ use native.Mathlib.Numerals.{add-one}
 use lib.Dec.{ltb}
 use borrow.Author.Tests.{lt-ltb, le-ltb, ltb-true, ltb-false}
 use Rattle.apportionment.specs.inner.Tests.{either-way}
-use Rattle.apportionment.specs.Quantities.{less, distance, sizeOf}
+use Rattle.apportionment.specs.Quantities.{Fraction, less, distance, sizeOf}
+use Rattle.claims.specs.inner.Fractions.{less-asymmetric, not-less-through, less-of-less-of-not}
 use Rattle.claims.specs.inner.SizeClaims.{sizedClaimBefore, sizeBefore}
+use Rattle.claims.specs.inner.SizeShape.{size-positive}
 use Rattle.claims.specs.inner.StartNearest.{nearer, Nearest, nearest-below, nearest-above}
 use Rattle.claims.specs.inner.StartSeats.{claims-met-fall, others-do-not-fall}
 
@@ -65,6 +68,7 @@ module _ (p a q b P H : ℕ) (z : 0 < P) (w : 0 < H) where
 
 -- A claim at or above the start: it does not fall, and with its seat the state has too many.
 pub record Climbs (p P H a : ℕ) : Type 0 where
+  pub some : 0 < a
   pub stays : nearer p P H (suc a) a ≡ false
   pub past : p * H ≤ suc a * P
 
@@ -77,6 +81,7 @@ module _ (p P H x : ℕ) (y : 0 < p) (z : 0 < P) (w : 0 < H) (n : Nearest p P H 
   pub climbs-from-start : (a : ℕ) → x ≤ a → Climbs p P H a
   climbs-from-start a h =
       record {
+        some = omega (arith, n .some);
         stays = others-do-not-fall p P H x y z w n a h;
         past = omega (arith, nearest-above p P H y z w x n, mul-le-mul-right P h);
       }
@@ -90,34 +95,58 @@ module _ (p P H x : ℕ) (y : 0 < p) (z : 0 < P) (w : 0 < H) (n : Nearest p P H 
 
 -- ---- their order
 
--- Rising claims: the larger p / (a + 1) first and, of equal ones, the larger present size.
-unfoldable pub risesBefore : (P H p a q b : ℕ) → Bool
-risesBefore P H p a q b =
-    cond (ltb (q * (a + 1)) (p * (b + 1))) true (cond (ltb (p * (b + 1)) (q * (a + 1))) false (less (sizeOf q b P H) (sizeOf p a P H)))
+-- A claim rises: the state's size is larger with the seat.
+abbrev pub rising : (P H p a : ℕ) → Bool
+rising P H p a = less (sizeOf p a P H) (sizeOf p (a + 1) P H)
 
--- Level claims come first, then rising ones.
+-- The larger p / (a + 1) first, unless the other claim is level and it is not; of equal ones, the larger present size.
 unfoldable pub climbsBefore : (P H p a q b : ℕ) → Bool
 climbsBefore P H p a q b =
-    cond (less (sizeOf p a P H) (sizeOf p (a + 1) P H))
-    (cond (less (sizeOf q b P H) (sizeOf q (b + 1) P H)) (risesBefore P H p a q b) false)
-    (less (sizeOf q b P H) (sizeOf q (b + 1) P H))
+    cond (ltb (q * (a + 1)) (p * (b + 1))) (rising P H q b)
+    (cond (ltb (p * (b + 1)) (q * (a + 1))) (cond (rising P H p a) false (rising P H q b)) (less (sizeOf q b P H) (sizeOf p a P H)))
 
 -- The larger p / a first and, of equal ones, the smaller new size.
 unfoldable pub fallsBefore : (P H p a q b : ℕ) → Bool
 fallsBefore P H p a q b =
     cond (ltb (q * a) (p * b)) true (cond (ltb (p * b) (q * a)) false (less (sizeOf p (a + 1) P H) (sizeOf q (b + 1) P H)))
 
+-- Two claims that do not fall and have equal new sizes are in the order of their present sizes, level or not: a level one has kept its own.
+module _ (old new old′ new′ : Fraction) (some : 0 < old .under) (some′ : 0 < old′ .under) (newSome : 0 < new .under) (newSome′ : 0 < new′ .under)
+    (stays : less new old ≡ false) (stays′ : less new′ old′ ≡ false) (equal : less new new′ ≡ false) (equal′ : less new′ new ≡ false) where
+  by-present : (r r′ : Bool) → less old new ≡ r → less old′ new′ ≡ r′ → cond r (cond r′ (less old′ old) false) r′ ≡ less old′ old
+  by-present true true e e′ = refl
+  by-present true false e e′ =
+      sym
+      (less-asymmetric old old′ (less-of-less-of-not old new′ old′ some′ (less-of-less-of-not old new new′ newSome′ e equal′) e′))
+  by-present false true e e′ =
+      sym (less-of-less-of-not old′ new old some (less-of-less-of-not old′ new′ new newSome e′ equal) e)
+  by-present false false e e′ =
+      sym (not-less-through old′ new old newSome (not-less-through old′ new′ new newSome′ e′ equal′) stays)
+
+-- The classes first and then the quotients, or the other way round: the same order, if at equal quotients the classes do not matter.
+quotients-first : (l g r r′ t : Bool) → (l ≡ false → g ≡ false → cond r (cond r′ t false) r′ ≡ t)
+    → cond r (cond r′ (cond l true (cond g false t)) false) r′ ≡ cond l r′ (cond g (cond r false r′) t)
+quotients-first true g true true t equal = refl
+quotients-first true g true false t equal = refl
+quotients-first true g false r′ t equal = refl
+quotients-first false true true true t equal = refl
+quotients-first false true true false t equal = refl
+quotients-first false true false r′ t equal = refl
+quotients-first false false r r′ t equal = equal refl refl
+
 module _ {P H : ℕ} (z : 0 < P) (w : 0 < H) (p a q b : ℕ) where
   pub climbs-by-quotient : Climbs p P H a → Climbs q P H b → sizeBefore P H p a q b ≡ climbsBefore P H p a q b
-  unfolding sizeBefore sizedClaimBefore climbsBefore risesBefore
+  unfolding sizeBefore sizedClaimBefore climbsBefore
   climbs-by-quotient c d =
-      simp (
-        c .stays,
-        d .stays,
-        sizes-above p (suc a) q (suc b) P H z w (c .past) (d .past),
-        sizes-above q (suc b) p (suc a) P H z w (d .past) (c .past),
-        add-one,
-      )
+      let one = sizes-above p (suc a) q (suc b) P H z w (c .past) (d .past) in
+      let other = sizes-above q (suc b) p (suc a) P H z w (d .past) (c .past) in
+      simp (c .stays, d .stays, one, other, add-one)
+      (quotients-first (ltb (q * suc a) (p * suc b)) (ltb (p * suc b) (q * suc a)) (less (sizeOf p a P H) (sizeOf p (suc a) P H))
+      (less (sizeOf q b P H) (sizeOf q (suc b) P H)) (less (sizeOf q b P H) (sizeOf p a P H))
+      (λ e f.
+      by-present (sizeOf p a P H) (sizeOf p (suc a) P H) (sizeOf q b P H) (sizeOf q (suc b) P H)
+      (size-positive p a P H z (c .some)) (size-positive q b P H z (d .some)) (size-positive p (suc a) P H z (omega arith))
+      (size-positive q (suc b) P H z (omega arith)) (c .stays) (d .stays) (one ∙ e) (other ∙ f) _ _ refl refl))
 
   pub falls-by-quotient : Falls p P H a → Falls q P H b → sizeBefore P H p a q b ≡ fallsBefore P H p a q b
   unfolding sizeBefore sizedClaimBefore fallsBefore

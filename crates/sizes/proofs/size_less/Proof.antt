@@ -1,22 +1,18 @@
 -- `sizes::size_less` meets its contract: the products fit, since both sizes are small.
 -- Assumes nothing.
 use borrow.Author.Needs.{needs}
-use Rattle.apportionment.specs.Limits.{houseLimit, sumLimit}
 use Rattle.apportionment.specs.inner.MachineWords.{product-fits}
-use Rattle.sizes.specs.inner.Sizes.{lessSize}
-use Prim.Native.Nat.{_+_, _*_}
+use Rattle.sizes.specs.inner.Sizes.{lessSize, overLimit, underLimit}
 use Rattle.sizes.proofs.size_less.Statement.{statement}
 use Rattle.sizes.proofs.size_less.Tie as tie
 
 mul-result : tie.Need-mul-result
 mul-result c =
-    product-fits (sumLimit * (houseLimit + 1)) (houseLimit + 1) (c .before .before .pre .0 .over)
-    (c .before .before .pre .1 .under) tt
+    product-fits overLimit underLimit (c .before .before .pre .0 .over) (c .before .before .pre .1 .under) tt
 
 mul-result-2 : tie.Need-mul-result-2
 mul-result-2 c =
-    product-fits (sumLimit * (houseLimit + 1)) (houseLimit + 1)
-    (c .before .before .before .before .pre .1 .over)
+    product-fits overLimit underLimit (c .before .before .before .before .pre .1 .over)
     (c .before .before .before .before .pre .0 .under) tt
 
 returns : tie.Need-returns

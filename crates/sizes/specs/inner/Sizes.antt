@@ -46,10 +46,17 @@ pub record WithSeats (p a P H : ℕ) : Type 0 where
   pub state : State p P H
   pub seatsWithin : a ≤ houseLimit + 1
 
+-- The most that stands above and below in a size: at the largest sum and house, with one seat more than the house has.
+abbrev pub overLimit : ℕ
+overLimit = sumLimit * (houseLimit + 1)
+
+abbrev pub underLimit : ℕ
+underLimit = houseLimit + 1
+
 -- A size that can be multiplied with another's seats.
 pub record Small (s : Size) : Type 0 where
-  pub over : s .over ≤ sumLimit * (houseLimit + 1)
-  pub under : s .under ≤ houseLimit + 1
+  pub over : s .over ≤ overLimit
+  pub under : s .under ≤ underLimit
 
 pub record SmallClaim (c : Claim) : Type 0 where
   pub old : Small (c .old)
@@ -89,7 +96,7 @@ unfolding sizeFor
 size-small {p} {a} {P} {H} m =
     record {
       over =
-          distance-at-most (p * H) (a * P) (sumLimit * (houseLimit + 1))
+          distance-at-most (p * H) (a * P) overLimit
           (mul-le-mul {m₂ = houseLimit + 1} (le-trans (m .state .people) (m .state .sumWithin)) (omega (arith, m .state .houseWithin)))
           (omega (arith, mul-le-mul (m .seatsWithin) (m .state .sumWithin)));
       under = m .seatsWithin;
