@@ -29,13 +29,13 @@ extern "C" {
 /* The stack that each operation takes at most, in bytes, what is handed over by value included: a
    thread with 256 KiB is safe for any of them. Measured on x86-64 Linux by painting the stack, at the
    limits and on refusals; the gate measures it again (.ci/stack.c). Nothing else is allocated. */
-#define DESK_READ_STACK 1
-#define DESK_ALLOT_STACK 1
-#define DESK_OPEN_STACK 1
-#define DESK_STEP_STACK 1
-#define DESK_DEPARTURE_STACK 1
-#define DESK_LISTING_STACK 1
-#define DESK_NAME_STACK 1
+#define DESK_READ_STACK (46 * 1024)
+#define DESK_ALLOT_STACK (20 * 1024)
+#define DESK_OPEN_STACK (39 * 1024)
+#define DESK_STEP_STACK (64 * 1024)
+#define DESK_DEPARTURE_STACK 128
+#define DESK_LISTING_STACK (104 * 1024)
+#define DESK_NAME_STACK (30 * 1024)
 
 /* The methods. Under largest remainders, of equal remainders the larger population has the seat, and
    of equal populations too the earlier state. */
