@@ -99,7 +99,7 @@ size-small {p} {a} {P} {H} m =
           distance-at-most (p * H) (a * P) overLimit
           (mul-le-mul {m₂ = houseLimit + 1} (le-trans (m .state .people) (m .state .sumWithin)) (omega (arith, m .state .houseWithin)))
           (omega (arith, mul-le-mul (m .seatsWithin) (m .state .sumWithin)));
-      under = m .seatsWithin;
+      under = omega (arith, m .seatsWithin);
     }
 
 -- What working out a size, and a claim, hands back.
