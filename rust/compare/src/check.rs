@@ -367,10 +367,9 @@ fn check_walk(populations: &[u64], house: u64, counts: &mut Counts) -> Result<()
     same("total at the end of the way", &house, &placing.total)?;
     same("steps at the end of the way", &gap, &placing.steps)?;
     check_leximin(&placing, counts)?;
-    for _ in 0..3 {
-        check_step(&placing, counts)?;
-    }
-    Ok(())
+    check_step(&placing, counts)?;
+    check_moved(&placing, 20, &placing, counts)?;
+    check_moved(&placing, 20, &placing, counts)
 }
 
 /// For a small problem, the placing's seats have to be those that the search finds for its total.
