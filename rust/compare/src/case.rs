@@ -1,6 +1,6 @@
 //! One input for both desks, and the line of text from which it can be run again.
 
-use reference::Placing;
+use reference::{Placing, STATES_LIMIT};
 use std::fmt;
 
 #[derive(Clone, Debug, PartialEq, Eq)]
@@ -163,10 +163,10 @@ fn without_last_zeros(list: &[u64]) -> &[u64] {
 }
 
 /// A list filled up with zeros, if it is not too long.
-fn filled(mut list: Vec<u64>) -> Option<[u64; 250]> {
-    if list.len() > 250 {
+fn filled(mut list: Vec<u64>) -> Option<[u64; STATES_LIMIT]> {
+    if list.len() > STATES_LIMIT {
         return None;
     }
-    list.resize(250, 0);
+    list.resize(STATES_LIMIT, 0);
     list.try_into().ok()
 }

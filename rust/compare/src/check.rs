@@ -3,7 +3,7 @@
 
 use crate::Case;
 use desk::ffi;
-use reference::{Mark, Method, Placing, Refusal, Register};
+use reference::{Mark, Method, Placing, Refusal, Register, STATES_LIMIT};
 use std::fmt::Debug;
 
 /// What a run has seen: inputs by kind, calls to the library, answers by refusal number (0 where
@@ -61,7 +61,7 @@ pub fn check(case: &Case, counts: &mut Counts) -> Result<(), String> {
             populations,
         } => check_allot(*method, *house, populations, *room, counts),
         Case::Walk { house, populations } => check_walk(populations, *house, counts),
-        Case::Step { placing } => check_step(placing, counts).map(|_| ()),
+        Case::Step { placing } => check_step(placing, counts),
         &Case::Departure {
             population,
             seats,
@@ -161,7 +161,7 @@ fn reading(answer: &Result<Register, Refusal>) -> ffi::Reading {
         house: 0,
         states: 0,
         total: 0,
-        populations: [0; 250],
+        populations: [0; STATES_LIMIT],
     };
     match answer {
         Ok(register) => {
@@ -316,8 +316,8 @@ const NO_PLACING: ffi::Placing = ffi::Placing {
     house: 0,
     total: 0,
     steps: 0,
-    populations: [0; 250],
-    seats: [0; 250],
+    populations: [0; STATES_LIMIT],
+    seats: [0; STATES_LIMIT],
 };
 
 fn in_c(placing: &Placing) -> ffi::Placing {
@@ -331,6 +331,8 @@ fn in_c(placing: &Placing) -> ffi::Placing {
     }
 }
 
+/// Opening, and every step to the house. The reference goes the way once; its own step, which
+/// replays a placing from its opening, is asked at the house alone.
 fn check_walk(populations: &[u64], house: u64, counts: &mut Counts) -> Result<(), String> {
     let opened = reference::open(populations, house);
     let expected = match &opened {
@@ -351,35 +353,54 @@ fn check_walk(populations: &[u64], house: u64, counts: &mut Counts) -> Result<()
     same("desk_open", &expected, &found)?;
     same("populations after desk_open", &before, &lent.whole)?;
 
-    let Ok(mut placing) = opened else {
+    let Ok(opened) = opened else {
         return Ok(());
     };
-    let gap = placing.total.abs_diff(house);
-    for _ in 0..gap + 3 {
-        let seats = &placing.seats[..populations.len()];
-        check_search(populations, house, placing.total, seats, counts)?;
-        placing = check_step(&placing, counts)?;
+    let gap = opened.total.abs_diff(house);
+    let on_the_way = reference::way(populations, house).expect("an opening not refused");
+    let mut placing = opened;
+    for next in on_the_way.skip(1) {
+        check_leximin(&placing, counts)?;
+        check_moved(&placing, 0, &next, counts)?;
+        placing = next;
     }
-    same(
-        "total after as many steps as the gap",
-        &house,
-        &placing.total,
-    )?;
-    same("steps after as many steps as the gap", &gap, &placing.steps)
+    same("total at the end of the way", &house, &placing.total)?;
+    same("steps at the end of the way", &gap, &placing.steps)?;
+    check_leximin(&placing, counts)?;
+    check_step(&placing, counts)?;
+    check_moved(&placing, 20, &placing, counts)?;
+    check_moved(&placing, 20, &placing, counts)
 }
 
-/// Hands on the placing that both desks agree on.
-fn check_step(placing: &Placing, counts: &mut Counts) -> Result<Placing, String> {
+/// For a small problem, the placing's seats have to be those that the search finds for its total.
+fn check_leximin(placing: &Placing, counts: &mut Counts) -> Result<(), String> {
+    let n = placing.states as usize;
+    let (populations, seats) = (&placing.populations[..n], &placing.seats[..n]);
+    check_search(populations, placing.house, placing.total, seats, counts)
+}
+
+/// One step of a placing that may be anything.
+fn check_step(placing: &Placing, counts: &mut Counts) -> Result<(), String> {
     let (next, outcome) = placing.step();
+    let refusal = outcome.map_or_else(|refusal| refusal.number, |()| 0);
+    check_moved(placing, refusal, &next, counts)
+}
+
+/// The library's step of a placing has to give a refusal, or 0, and the placing after it.
+fn check_moved(
+    placing: &Placing,
+    refusal: u64,
+    next: &Placing,
+    counts: &mut Counts,
+) -> Result<(), String> {
     let expected = ffi::Placed {
-        refusal: outcome.map_or_else(|refusal| refusal.number, |()| 0),
-        placing: in_c(&next),
+        refusal,
+        placing: in_c(next),
     };
     // SAFETY: the placing is handed over by value.
     let found = unsafe { ffi::desk_step(in_c(placing)) };
-    counts.call(expected.refusal);
-    same("desk_step", &expected, &found)?;
-    Ok(next)
+    counts.call(refusal);
+    same("desk_step", &expected, &found)
 }
 
 // ---- Departures

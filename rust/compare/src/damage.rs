@@ -1,7 +1,8 @@
 //! Registers as text: sound ones in every accepted dress, and damage to lines, fields and bytes.
 
-use crate::problem;
 use crate::random::Random;
+use crate::{problem, MOST_STATES};
+use reference::{HOUSE_LIMIT, SUM_LIMIT};
 
 const METHODS: [&str; 7] = [
     "leximin",
@@ -40,6 +41,15 @@ impl Draft {
         Draft { lines, ends }
     }
 
+    /// As many bytes as the same names and numbers can have: all digits, and CR LF everywhere.
+    pub fn widen(&mut self) {
+        self.ends.fill(b"\r\n".to_vec());
+        for (line, field) in numbers(self) {
+            let number = &mut self.lines[line][field];
+            number.splice(0..0, vec![b'0'; 10 - number.len()]);
+        }
+    }
+
     pub fn bytes(&self) -> Vec<u8> {
         let mut bytes = Vec::new();
         for (fields, end) in self.lines.iter().zip(&self.ends) {
@@ -61,8 +71,16 @@ pub fn sound(random: &mut Random) -> Draft {
     if method == "remainders" && random.once_in(2) {
         (populations, house) = problem::equal_remainders(random);
     }
-    let names: Vec<String> = (0..populations.len()).map(|i| name(style, i)).collect();
-    let mut draft = Draft::plain(method, house, &names, &populations);
+    let mut draft = Draft::plain(
+        method,
+        house,
+        &names(style, populations.len()),
+        &populations,
+    );
+    if random.once_in(20) {
+        draft.widen();
+        return draft;
+    }
     if random.once_in(4) {
         let always = random.once_in(2);
         for end in &mut draft.ends {
@@ -83,12 +101,20 @@ pub fn sound(random: &mut Random) -> Draft {
     draft
 }
 
-/// The name of the state at a place, in one of five styles.
-pub fn name(style: u64, place: usize) -> String {
+/// The style of names that have 32 bytes each.
+pub const LONG_NAMES: u64 = 2;
+
+/// So many different names, in one of five styles.
+pub fn names(style: u64, count: usize) -> Vec<String> {
+    (0..count).map(|place| name(style, place)).collect()
+}
+
+/// The name of the state at a place.
+fn name(style: u64, place: usize) -> String {
     match style {
         0 => format!("S{place}"),
         1 => format!("County of Saint {place}"),
-        2 => format!("{place:~>32}"),
+        LONG_NAMES => format!("{place:~>32}"),
         3 => ["total", "register", "leximin", "0", "!", "~", "a", "A"]
             .get(place)
             .map_or_else(|| format!("{}", 1000 + place), |word| word.to_string()),
@@ -103,8 +129,27 @@ fn numbers(draft: &Draft) -> Vec<(usize, usize)> {
     places
 }
 
+/// A register that is sound but for its house or the number of its states, which is past the limit.
+fn past_a_limit(random: &mut Random) -> Draft {
+    let more = match random.below(3) {
+        0 => random.bits(8),
+        _ => 0,
+    };
+    let style = random.below(5);
+    let (n, house) = match random.below(2) {
+        0 => (MOST_STATES + 1 + more, HOUSE_LIMIT),
+        _ => (problem::states(random), HOUSE_LIMIT + 1 + more),
+    };
+    let populations = problem::populations(random, n);
+    let names = names(style, populations.len());
+    Draft::plain(random.pick(&METHODS), house, &names, &populations)
+}
+
 /// A register with some damage, or none.
 pub fn register(random: &mut Random) -> Vec<u8> {
+    if random.once_in(100) {
+        return past_a_limit(random).bytes();
+    }
     let mut draft = sound(random);
     match random.below(10) {
         0..=3 => return draft.bytes(),
@@ -176,7 +221,7 @@ fn harm_draft(random: &mut Random, draft: &mut Draft) {
 
 /// Something else in the place of a field: a near miss of it, or a value at some limit.
 fn harmed_field(random: &mut Random, field: &[u8]) -> Vec<u8> {
-    const VALUES: [&str; 32] = [
+    const VALUES: [&str; 24] = [
         "",
         "0",
         "1",
@@ -185,14 +230,6 @@ fn harmed_field(random: &mut Random, field: &[u8]) -> Vec<u8> {
         "0000000000",
         "00000000000",
         "00000000001",
-        "9999",
-        "10000",
-        "09999",
-        "250",
-        "251",
-        "4294967295",
-        "4294967296",
-        "04294967295",
         "9999999999",
         "99999999999",
         "18446744073709551617",
@@ -221,6 +258,11 @@ fn harmed_field(random: &mut Random, field: &[u8]) -> Vec<u8> {
         (4, _) => vec![random.pick(b"x~ 0\r"); random.pick(&[1, 31, 32, 33, 40])],
         (5, _) => [field, random.pick(&[&b" "[..], b"\r", b"x", b"\t"])].concat(),
         (6, _) => [random.pick(&[&b" "[..], b"\r", b"x", b"0"]), field].concat(),
+        (7, _) => {
+            let limit = random.pick(&[HOUSE_LIMIT, MOST_STATES, SUM_LIMIT]);
+            let zeros = random.pick(&["", "", "0"]);
+            format!("{zeros}{}", limit + random.below(2)).into_bytes()
+        }
         _ => random.pick(&VALUES).into(),
     }
 }

@@ -1,10 +1,10 @@
-//! Inputs that every run begins with: the document's examples, the limits, and one register cut,
-//! changed, filled and thinned at every byte.
+//! Inputs that every run begins with: the document's examples, the limits, the longest registers,
+//! and one register cut, changed, filled and thinned at every byte.
 
 use crate::damage::{self, Draft};
 use crate::random::Random;
 use crate::{seeded, Case};
-use reference::Placing;
+use reference::{Placing, BYTES_LIMIT, HOUSE_LIMIT, STATES_LIMIT, SUM_LIMIT};
 
 /// The fixed inputs; the seed settles only which room and place a register is tried with, and
 /// which sound register is damaged beside the document's own.
@@ -12,6 +12,8 @@ pub fn fixed(seed: u64) -> Vec<Case> {
     let random = &mut Random::new(seed, u64::MAX);
     let mut cases = examples();
     cases.extend(limits(random));
+    cases.extend(longest_walk());
+    cases.extend(longest_registers(random));
     cases.extend(alike(random));
     let listed = b"register,leximin,20,5\r\nA,26\nB,27\r\nC,28\nD,29\nE,91\ntotal,201\n".to_vec();
     let small = (0..).map(|_| damage::sound(random).bytes());
@@ -73,7 +75,7 @@ fn examples() -> Vec<Case> {
         (8, &[1, 4, 7]),
         (4, &[1, 1, 5, 1]),
         (5, &[1, 2, 3, 7, 12]),
-        (9_999, &[257_724, 1_431_913_489, 2_862_796_082]),
+        (HOUSE_LIMIT, &[85_899, 1_431_741_664, 2_863_139_732]),
     ];
     let mut cases = Vec::new();
     for (house, populations) in problems {
@@ -106,11 +108,11 @@ fn examples() -> Vec<Case> {
 /// States, house, sum and bytes at their limits and just past them.
 fn limits(random: &mut Random) -> Vec<Case> {
     let mut cases = Vec::new();
-    for n in [1, 249, 250, 251] {
+    for n in [1, STATES_LIMIT - 1, STATES_LIMIT, STATES_LIMIT + 1] {
         let ones = vec![1; n];
         let mut large: Vec<u64> = (0..n as u64).map(|i| 1 + i * i).collect();
-        large[n / 2] += 4_294_967_295 - large.iter().sum::<u64>();
-        let equal = vec![4_294_967_295 / n as u64; n];
+        large[n / 2] += SUM_LIMIT - large.iter().sum::<u64>();
+        let equal = vec![SUM_LIMIT / n as u64; n];
         let mut past = large.clone();
         past[0] += 1;
         for populations in [ones, large, equal, past] {
@@ -120,8 +122,9 @@ fn limits(random: &mut Random) -> Vec<Case> {
                 n as u64 - 1,
                 n as u64,
                 2 * n as u64 - 1,
-                9_999,
-                10_000,
+                HOUSE_LIMIT - 1,
+                HOUSE_LIMIT,
+                HOUSE_LIMIT + 1,
             ] {
                 for method in 0..7 {
                     cases.push(Case::Allot {
@@ -136,13 +139,13 @@ fn limits(random: &mut Random) -> Vec<Case> {
                     populations: populations.clone(),
                 });
                 let method = random.pick(&["leximin", "dean", "hill", "webster", "remainders"]);
-                let names: Vec<String> = (0..n).map(|i| damage::name(2, i)).collect();
+                let names = damage::names(damage::LONG_NAMES, n);
                 let bytes = Draft::plain(method, house, &names, &populations).bytes();
                 cases.push(seeded::around(random, bytes));
             }
         }
     }
-    for length in [0, 65_535, 65_536, 65_537, 70_000] {
+    for length in [0, BYTES_LIMIT - 1, BYTES_LIMIT, BYTES_LIMIT + 1, 70_000] {
         for filler in [b'x', b'\n', b'0', b','] {
             cases.push(seeded::around(random, vec![filler; length]));
             let mut bytes = b"register,hill,3,2\nA,1\nB,2\ntotal,3\n".to_vec();
@@ -150,10 +153,20 @@ fn limits(random: &mut Random) -> Vec<Case> {
             cases.push(seeded::around(random, bytes));
         }
     }
-    let corners = [0, 1, 9_999, 10_000, 4_294_967_295, 4_294_967_296, u64::MAX];
+    let past = HOUSE_LIMIT + 1;
+    let corners = [0, 1, HOUSE_LIMIT, past, SUM_LIMIT, SUM_LIMIT + 1, u64::MAX];
     for population in corners {
         for total in corners {
-            for (seats, house) in [(0, 1), (1, 1), (1, 9_999), (9_999, 9_999), (9_999, 9_998)] {
+            for (seats, house) in [
+                (0, 1),
+                (1, 1),
+                (1, HOUSE_LIMIT),
+                (HOUSE_LIMIT, HOUSE_LIMIT),
+                (HOUSE_LIMIT, HOUSE_LIMIT - 1),
+                (past, HOUSE_LIMIT),
+                (0, past),
+                (1, past),
+            ] {
                 cases.push(Case::Departure {
                     population,
                     seats,
@@ -163,8 +176,8 @@ fn limits(random: &mut Random) -> Vec<Case> {
             }
         }
     }
-    for number in [0, 1, 250, u64::MAX] {
-        let populations = [number; 250];
+    for number in [0, 1, STATES_LIMIT as u64, u64::MAX] {
+        let populations = [number; STATES_LIMIT];
         cases.push(Case::Step {
             placing: Box::new(Placing {
                 states: number,
@@ -179,12 +192,97 @@ fn limits(random: &mut Random) -> Vec<Case> {
     cases
 }
 
+/// One state has all voters but one for each other, and gives up a seat at every step: the longest
+/// walk we know, of as many steps as there are other states.
+fn longest_walk() -> Vec<Case> {
+    let states = STATES_LIMIT as u64;
+    let mut populations = vec![1; STATES_LIMIT];
+    populations[STATES_LIMIT / 2] = SUM_LIMIT - (states - 1);
+    vec![
+        Case::Allot {
+            method: 0,
+            house: states,
+            room: STATES_LIMIT,
+            populations: populations.clone(),
+        },
+        Case::Walk {
+            house: states,
+            populations,
+        },
+    ]
+}
+
+/// Registers of as many states as can be and more, each line as long as it can be: accepted, with
+/// a fault in one of the last lines, and going on after the closing line up to the most bytes and
+/// past them.
+fn longest_registers(random: &mut Random) -> Vec<Case> {
+    let mut cases = Vec::new();
+    for method in ["leximin", "hill", "webster", "remainders"] {
+        let bytes = wide(method, STATES_LIMIT).bytes();
+        let length = reference::listing(&bytes).map_or(100, |listing| listing.len());
+        for (room, place) in [(length - 1, STATES_LIMIT), (length, STATES_LIMIT - 1)] {
+            let bytes = bytes.clone();
+            cases.push(Case::Register { room, place, bytes });
+        }
+    }
+
+    let mut refused = Vec::new();
+    let accepted = wide("remainders", STATES_LIMIT);
+    let closing = STATES_LIMIT + 1;
+    for (line, field, text) in [
+        (closing, 1, "4294967294"),
+        (closing, 0, "Total"),
+        (closing - 1, 1, "0000000000"),
+        (closing - 1, 1, "4294967295"),
+        (closing - 1, 0, &damage::names(damage::LONG_NAMES, 1)[0]),
+        (closing - 2, 0, " "),
+    ] {
+        let mut faulty = accepted.clone();
+        faulty.lines[line][field] = text.into();
+        refused.push(faulty.bytes());
+    }
+    // 1,455 lines of states fill the most bytes.
+    for n in [STATES_LIMIT + 1, 1_000, 1_455, 1_456] {
+        let mut draft = wide("remainders", n);
+        refused.push(draft.bytes());
+        draft.lines[0][3] = format!("{STATES_LIMIT:010}").into();
+        refused.push(draft.bytes());
+    }
+    let bytes = accepted.bytes();
+    for length in [
+        bytes.len() - 1,
+        bytes.len() + 1,
+        45_000,
+        BYTES_LIMIT,
+        BYTES_LIMIT + 1,
+    ] {
+        // The register again after its closing line.
+        refused.push(bytes.iter().copied().cycle().take(length).collect());
+    }
+    cases.extend(
+        refused
+            .into_iter()
+            .map(|bytes| seeded::around(random, bytes)),
+    );
+    cases
+}
+
+/// A sound register, but for the number of its states, in which each line is as long as it can be.
+fn wide(method: &str, n: usize) -> Draft {
+    let names = damage::names(damage::LONG_NAMES, n);
+    let mut populations: Vec<u64> = (1..=n as u64).collect();
+    populations[n / 3] += SUM_LIMIT - populations.iter().sum::<u64>();
+    let mut draft = Draft::plain(method, HOUSE_LIMIT, &names, &populations);
+    draft.widen();
+    draft
+}
+
 /// Registers whose names have one fingerprint in the library, which keeps 32 bits of each: all
 /// different, and with a name used again.
 fn alike(random: &mut Random) -> Vec<Case> {
     let names = alike_names();
     let mut cases = Vec::new();
-    for n in [2, 3, 50, 250] {
+    for n in [2, 3, 50, STATES_LIMIT] {
         for used in [None, Some(0), Some(n / 2), Some(n - 2)] {
             let mut names = names[..n].to_vec();
             if let Some(used) = used {
@@ -197,22 +295,56 @@ fn alike(random: &mut Random) -> Vec<Case> {
     cases
 }
 
-/// 250 names of 32 bytes with one fingerprint: adding these eight numbers to eight bytes in a row
-/// leaves it as it was, wherever they stand.
+/// As many names of 32 bytes as there can be states, all with one fingerprint: adding these eight
+/// numbers to eight bytes in a row leaves it as it was, wherever they stand.
 fn alike_names() -> Vec<String> {
     const NUMBERS: [i32; 8] = [-11, 2, -6, 5, 9, -6, 12, 3];
-    let mut names = Vec::new();
-    for first in 0..25 {
-        for second in first..25 {
-            let mut bytes = [80; 32];
-            for at in [first, second] {
-                for (byte, number) in bytes[at..].iter_mut().zip(NUMBERS) {
-                    *byte += number;
-                }
+    let places = (0..25).flat_map(|a| (a..25).flat_map(move |b| (b..25).map(move |c| [a, b, c])));
+    let name = |places: [usize; 3]| {
+        let mut bytes = [80; 32];
+        for at in places {
+            for (byte, number) in bytes[at..].iter_mut().zip(NUMBERS) {
+                *byte += number;
             }
-            names.push(bytes.iter().map(|byte| *byte as u8 as char).collect());
         }
+        bytes.iter().map(|byte| *byte as u8 as char).collect()
+    };
+    places.map(name).take(STATES_LIMIT).collect()
+}
+
+#[cfg(test)]
+mod tests {
+    use super::*;
+    use std::collections::HashSet;
+
+    #[test]
+    fn the_longest_register_is_accepted() {
+        let bytes = wide("remainders", STATES_LIMIT).bytes();
+        let head = "register,remainders,0000030000,0000000800\r\n".len();
+        let state = 32 + 1 + 10 + 2;
+        let closing = "total,4294967295\r\n".len();
+        assert_eq!(bytes.len(), head + STATES_LIMIT * state + closing);
+        assert_eq!(bytes.len(), 36_061);
+        assert_eq!(reference::read(&bytes).unwrap().names.len(), STATES_LIMIT);
+        assert_eq!(wide("remainders", 1_455).bytes().len(), BYTES_LIMIT);
     }
-    names.truncate(250);
-    names
+
+    #[test]
+    fn names_with_one_fingerprint_are_different_names() {
+        let names = alike_names();
+        assert_eq!(names.len(), STATES_LIMIT);
+        let different: HashSet<&String> = names.iter().collect();
+        assert_eq!(different.len(), STATES_LIMIT);
+        let is_plain = |byte| (33..=126).contains(&byte) && byte != b',';
+        assert!(names
+            .iter()
+            .all(|name| name.len() == 32 && name.bytes().all(is_plain)));
+        // As the library works it out: times the FNV prime and the byte added, cut to 32 bits.
+        let fingerprint = |name: &String| {
+            let next = |print: u32, byte| print.wrapping_mul(16_777_619).wrapping_add(byte as u32);
+            name.bytes().fold(0, next)
+        };
+        let fingerprints: HashSet<u32> = names.iter().map(fingerprint).collect();
+        assert_eq!(fingerprints.len(), 1);
+    }
 }

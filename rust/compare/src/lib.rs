@@ -15,6 +15,9 @@ pub use check::{check, Counts};
 pub use fixed::fixed;
 pub use seeded::seeded;
 
+/// The most states, as a number to count with.
+const MOST_STATES: u64 = reference::STATES_LIMIT as u64;
+
 /// The inputs of a run: the fixed ones first, then as many seeded ones as are asked for.
 pub struct Inputs {
     seed: u64,

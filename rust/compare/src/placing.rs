@@ -2,7 +2,7 @@
 
 use crate::problem;
 use crate::random::Random;
-use reference::{open, Placing};
+use reference::{open, way, Placing, STATES_LIMIT};
 
 /// A placing on its way or at the house, forged more often than not.
 pub fn placing(random: &mut Random) -> Placing {
@@ -20,21 +20,21 @@ pub fn placing(random: &mut Random) -> Placing {
 /// An opened placing after some of its steps.
 fn genuine(random: &mut Random) -> Placing {
     let (populations, house) = problem::problem(random);
-    let mut placing = open(&populations, house).expect("a sound problem");
-    let gap = placing.total.abs_diff(house);
+    let opened = open(&populations, house).expect("a sound problem");
+    let gap = opened.total.abs_diff(house);
     let steps = match random.below(3) {
         0 => gap,
         _ => random.below(gap + 1),
     };
-    for _ in 0..steps {
-        placing = placing.step().0;
-    }
-    placing
+    let mut on_the_way = way(&populations, house).expect("a sound problem");
+    on_the_way
+        .nth(steps as usize)
+        .expect("a step before the house")
 }
 
 /// Alters one thing that makes a placing foreign, most of the time.
 fn forge(random: &mut Random, placing: &mut Placing) {
-    let n = (placing.states as usize).clamp(1, 250);
+    let n = (placing.states as usize).clamp(1, STATES_LIMIT);
     let (i, j) = (
         random.below(n as u64) as usize,
         random.below(n as u64) as usize,
@@ -57,10 +57,13 @@ fn forge(random: &mut Random, placing: &mut Placing) {
         11 => placing.populations.swap(i, j),
         12 => placing.house = random.wild(),
         13 => placing.house = placing.house.wrapping_add(1),
-        14 => placing.states = random.pick(&[0, 251, 252, 300, 1 << 32, u64::MAX]),
+        14 => {
+            let limit = STATES_LIMIT as u64;
+            placing.states = random.pick(&[0, limit + 1, limit + 2, limit + 50, 1 << 32, u64::MAX]);
+        }
         15 => placing.states = placing.states.wrapping_add(random.pick(&[1, u64::MAX])),
         16 => {
-            let past = random.from(n as u64 - 1, 249) as usize;
+            let past = random.from(n as u64 - 1, STATES_LIMIT as u64 - 1) as usize;
             let list = random.pick(&[0, 1]);
             let junk = random.wild();
             [&mut placing.seats, &mut placing.populations][list][past] ^= junk;
@@ -77,8 +80,8 @@ fn all(number: u64) -> Placing {
         house: number,
         total: number,
         steps: number,
-        populations: [number; 250],
-        seats: [number; 250],
+        populations: [number; STATES_LIMIT],
+        seats: [number; STATES_LIMIT],
     }
 }
 
@@ -97,7 +100,7 @@ fn swap_equal_states(placing: &mut Placing, n: usize) {
 
 /// A seat moved to or from a state of chance, with total and steps to suit.
 fn feign(random: &mut Random, placing: &mut Placing) {
-    let i = random.below(placing.states.clamp(1, 250)) as usize;
+    let i = random.below(placing.states.clamp(1, STATES_LIMIT as u64)) as usize;
     let step = if placing.total < placing.house {
         1
     } else {

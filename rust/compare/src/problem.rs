@@ -2,14 +2,14 @@
 //! equal quotients, equal remainders and the limits.
 
 use crate::random::Random;
-
-const SUM_LIMIT: u64 = 4_294_967_295;
+use crate::MOST_STATES;
+use reference::{HOUSE_LIMIT, SUM_LIMIT};
 
 /// A number of states: mostly few, at times many or the limit.
 pub fn states(random: &mut Random) -> u64 {
     match random.below(50) {
-        0 => random.pick(&[249, 250]),
-        1..=3 => random.from(1, 250),
+        0 => random.pick(&[MOST_STATES - 1, MOST_STATES]),
+        1..=3 => random.from(1, MOST_STATES),
         4..=15 => random.from(1, 40),
         _ => random.from(1, 7),
     }
@@ -29,16 +29,17 @@ pub fn problem(random: &mut Random) -> (Vec<u64>, u64) {
 /// A house not below the number of states: mostly near it, at times large or the limit.
 fn house(random: &mut Random, n: u64) -> u64 {
     match random.below(40) {
-        0 => 9_999,
-        1 | 2 => random.from(n, 9_999),
+        0 => random.pick(&[HOUSE_LIMIT - 1, HOUSE_LIMIT]),
+        1 | 2 => random.from(n, HOUSE_LIMIT),
         3..=5 => random.from(n, n + 500),
         6..=9 => n + random.below(2),
         _ => random.from(n, 4 * n + 3),
     }
 }
 
-/// Populations of one of several makes.
+/// Populations of one of several makes, whose sum is within its limit.
 pub fn populations(random: &mut Random, n: u64) -> Vec<u64> {
+    let most = SUM_LIMIT / n;
     let each = |random: &mut Random, make: &mut dyn FnMut(&mut Random) -> u64| -> Vec<u64> {
         (0..n).map(|_| make(random)).collect()
     };
@@ -46,17 +47,17 @@ pub fn populations(random: &mut Random, n: u64) -> Vec<u64> {
         0 => each(random, &mut |r| r.from(1, 4)),
         1 => each(random, &mut |r| r.from(1, 30)),
         2 => {
-            let one = random.from(1, SUM_LIMIT / n);
+            let one = random.from(1, most);
             each(random, &mut |_| one)
         }
         3 => {
-            let unit = random.bits(20);
-            each(random, &mut |r| (unit + 1) * r.from(1, 6))
+            let unit = (1 + random.bits(20)).min(most / 6);
+            each(random, &mut |r| unit * r.from(1, 6))
         }
-        4 => each(random, &mut |r| 1 + r.bits(24)),
+        4 => each(random, &mut |r| (1 + r.bits(24)).min(most)),
         5 => signposts(random, n),
         6 => {
-            let mut list = each(random, &mut |r| 1 + r.bits(24));
+            let mut list = each(random, &mut |r| (1 + r.bits(24)).min(most));
             raise_to(random, &mut list, SUM_LIMIT);
             list
         }
@@ -89,7 +90,6 @@ fn signposts(random: &mut Random, n: u64) -> Vec<u64> {
     // Counts s with a(a + 1) = 2s² at a of 1, 8, 49, 288: Hill's quotients are equal there.
     const HILL: [u64; 4] = [1, 6, 35, 204];
     let row = random.below(5);
-    let factor = random.from(1, 40);
     let mut signpost = || {
         let a = random.from(1, 6);
         match row {
@@ -100,7 +100,10 @@ fn signposts(random: &mut Random, n: u64) -> Vec<u64> {
             _ => 10 * a,
         }
     };
-    (0..n).map(|_| signpost() * factor).collect()
+    let list: Vec<u64> = (0..n).map(|_| signpost()).collect();
+    let most = SUM_LIMIT / list.iter().sum::<u64>();
+    let factor = random.from(1, most.min(40));
+    list.iter().map(|p| p * factor).collect()
 }
 
 /// States whose population is as near to one number of seats as to the next, and one more that
@@ -153,7 +156,7 @@ pub fn equal_remainders(random: &mut Random) -> (Vec<u64>, u64) {
     populations.insert(at, last);
     let house = match random.below(2) {
         0 => parts,
-        _ => parts * random.from(1, 9_999 / parts),
+        _ => parts * random.from(1, HOUSE_LIMIT / parts),
     };
     (populations, house)
 }

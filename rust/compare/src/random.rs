@@ -1,5 +1,7 @@
 //! Seeded random numbers (SplitMix64), so that a run can be made again.
 
+use reference::{HOUSE_LIMIT, SUM_LIMIT};
+
 pub struct Random(u64);
 
 impl Random {
@@ -55,12 +57,12 @@ impl Random {
             0,
             1,
             2,
-            9_998,
-            9_999,
-            10_000,
-            4_294_967_294,
-            4_294_967_295,
-            4_294_967_296,
+            HOUSE_LIMIT - 1,
+            HOUSE_LIMIT,
+            HOUSE_LIMIT + 1,
+            SUM_LIMIT - 1,
+            SUM_LIMIT,
+            SUM_LIMIT + 1,
             1 << 62,
             (1 << 63) - 1,
             1 << 63,

@@ -1,7 +1,9 @@
 //! Seeded inputs of every kind.
 
+use crate::damage::{self, Draft};
 use crate::random::Random;
-use crate::{damage, placing, problem, Case};
+use crate::{placing, problem, Case, MOST_STATES};
+use reference::{BYTES_LIMIT, HOUSE_LIMIT, SUM_LIMIT};
 
 /// The input with a given number under a seed.
 pub fn seeded(seed: u64, number: u64) -> Case {
@@ -18,10 +20,10 @@ pub fn seeded(seed: u64, number: u64) -> Case {
 }
 
 fn register(random: &mut Random) -> Case {
-    let bytes = if random.once_in(500) {
-        long(random)
-    } else {
-        damage::register(random)
+    let bytes = match random.below(500) {
+        0 => filled(random),
+        1 | 2 => many_lines(random),
+        _ => damage::register(random),
     };
     around(random, bytes)
 }
@@ -52,15 +54,44 @@ pub fn around(random: &mut Random, bytes: Vec<u8>) -> Case {
 }
 
 /// Bytes about as many as a register may have, most of them in one line or past the closing one.
-fn long(random: &mut Random) -> Vec<u8> {
+fn filled(random: &mut Random) -> Vec<u8> {
     let mut bytes = damage::sound(random).bytes();
-    let length = random.pick(&[65_535, 65_536, 65_537, 65_538]);
+    let length = about_the_limit(random);
     let filler = random.pick(b"x0\n ,\r");
     let at = match random.below(2) {
         0 => bytes.len(),
         _ => random.place(&bytes),
     };
     bytes.splice(at..at, vec![filler; length - bytes.len()]);
+    bytes
+}
+
+/// A number of bytes next to the most that a register may have.
+fn about_the_limit(random: &mut Random) -> usize {
+    BYTES_LIMIT - 1 + random.below(4) as usize
+}
+
+/// As many lines of states as a register has room for, each as long as it can be: under a count
+/// that is true, or at the limit, so that lines of states stand where the closing line should.
+/// It is whole, or has a number of bytes next to the most that a register may have.
+fn many_lines(random: &mut Random) -> Vec<u8> {
+    let n = match random.below(2) {
+        0 => random.from(MOST_STATES - 1, MOST_STATES + 1),
+        _ => random.from(MOST_STATES, 1_500),
+    };
+    let populations = problem::populations(random, n);
+    let names = damage::names(damage::LONG_NAMES, populations.len());
+    let house = random.from(HOUSE_LIMIT - 1, HOUSE_LIMIT);
+    let mut draft = Draft::plain("remainders", house, &names, &populations);
+    if random.once_in(2) {
+        draft.lines[0][3] = MOST_STATES.to_string().into_bytes();
+    }
+    draft.widen();
+    let mut bytes = draft.bytes();
+    if random.once_in(2) {
+        let length = about_the_limit(random);
+        bytes = bytes.iter().copied().cycle().take(length).collect();
+    }
     bytes
 }
 
@@ -78,10 +109,11 @@ fn any_problem(random: &mut Random) -> (Vec<u64>, u64) {
             // A sum at the limit or just past it.
             let at = random.place(&populations);
             let others = populations.iter().sum::<u64>() - populations[at];
-            populations[at] = 4_294_967_295 + random.below(2) - others;
+            populations[at] = SUM_LIMIT + random.below(2) - others;
         }
         4 => {
-            let n = random.pick(&[0, 0, 250, 251, 252, 300]);
+            let past = MOST_STATES + 1;
+            let n = random.pick(&[0, 0, MOST_STATES, past, past + 1, past + 50]);
             populations = (0..n).map(|_| random.from(1, 9)).collect();
         }
         5 => {
@@ -111,7 +143,7 @@ fn allot(random: &mut Random) -> Case {
         0 => n + 1,
         1 => n.saturating_sub(1),
         2 => 0,
-        3 => random.below(300) as usize,
+        3 => random.below(MOST_STATES + 50) as usize,
         _ => n,
     };
     Case::Allot {
@@ -129,16 +161,17 @@ fn walk(random: &mut Random) -> Case {
 
 /// A departure: anything, sound, at a half, or at the edge of a mark.
 fn departure(random: &mut Random) -> Case {
-    let house = match random.below(4) {
-        0 => random.from(1, 9_999),
+    let house = match random.below(16) {
+        0 => random.pick(&[HOUSE_LIMIT - 1, HOUSE_LIMIT, HOUSE_LIMIT + 1]),
+        1..=3 => random.from(1, HOUSE_LIMIT),
         _ => random.from(1, 12),
     };
     let seats = random.below(house + 1);
-    let most = random.pick(&[50, 100_000, 4_294_967_295]);
+    let most = random.pick(&[50, 100_000, SUM_LIMIT]);
     let (population, seats, total, house) = match random.below(6) {
         0 => (random.wild(), random.wild(), random.wild(), random.wild()),
         1 => {
-            let total = random.pick(&[most, 4_294_967_295, 4_294_967_296, 0, 1]);
+            let total = random.pick(&[most, SUM_LIMIT, SUM_LIMIT + 1, 0, 1]);
             let population = random.pick(&[0, 1, total, total + 1]);
             (population, seats + random.below(2), total, house)
         }
@@ -150,7 +183,7 @@ fn departure(random: &mut Random) -> Case {
         3 | 4 => {
             // A share of 9, 11, 8.5 or 11.5 tenths of the seats, or next to it.
             let seats = seats.max(1);
-            let factor = random.from(1, 10_000);
+            let factor = random.from(1, (SUM_LIMIT / (20 * house)).min(10_000));
             let population = random.pick(&[17, 18, 20, 22, 23]) * factor * seats;
             let population = population + random.below(3) - 1;
             (population, seats, 20 * factor * house, house)

@@ -1,7 +1,9 @@
 //! A short run of the comparison, and what makes a long one worth reading: every refusal is met,
-//! and a printed input is the input that was run.
+//! the limits are reached by chance too, and a printed input is the input that was run.
 
 use compare::{check, Case, Counts, Inputs};
+use reference::{BYTES_LIMIT, HOUSE_LIMIT, STATES_LIMIT};
+use std::collections::HashSet;
 
 #[test]
 fn the_fixed_inputs_and_some_seeded_ones_agree_and_meet_every_refusal() {
@@ -18,7 +20,69 @@ fn the_fixed_inputs_and_some_seeded_ones_agree_and_meet_every_refusal() {
     ] {
         assert!(counts.refusals[number] > 0, "{number} was never met");
     }
-    assert!(counts.searched > 500);
+    assert!(counts.searched > 400);
+}
+
+fn lines(bytes: &[u8]) -> usize {
+    bytes.iter().filter(|&&byte| byte == b'\n').count()
+}
+
+/// House and states of an input; a register's are those of its head, if it has as many lines.
+fn house_and_states(case: &Case) -> Option<(u64, usize)> {
+    match case {
+        Case::Register { bytes, .. } => {
+            let text = std::str::from_utf8(bytes).ok()?;
+            let fields: Vec<&str> = text.lines().next()?.split(',').collect();
+            let [_, _, house, states] = fields[..] else {
+                return None;
+            };
+            let states = states.parse().ok()?;
+            (lines(bytes).checked_sub(2) == Some(states)).then_some((house.parse().ok()?, states))
+        }
+        Case::Allot {
+            house, populations, ..
+        }
+        | Case::Walk { house, populations } => Some((*house, populations.len())),
+        Case::Step { placing } => Some((placing.house, placing.states as usize)),
+        Case::Departure { house, .. } => Some((*house, 1)),
+    }
+}
+
+#[test]
+fn seeded_inputs_reach_the_limits() {
+    let inputs = Inputs::new(1);
+    let mut houses = HashSet::new();
+    let mut states = HashSet::new();
+    let mut lengths = HashSet::new();
+    let (mut larger_houses, mut more_states, mut many_lines) = (0, 0, 0);
+    for number in inputs.fixed()..inputs.fixed() + 20_000 {
+        let case = inputs.get(number);
+        if let Case::Register { bytes, .. } = &case {
+            lengths.insert(bytes.len());
+            many_lines += (bytes.len() > 45_000 && lines(bytes) > STATES_LIMIT) as u64;
+        }
+        if let Some((house, n)) = house_and_states(&case) {
+            houses.insert((case.kind(), house));
+            states.insert((case.kind(), n));
+            larger_houses += (HOUSE_LIMIT / 3..=HOUSE_LIMIT).contains(&house) as u64;
+            more_states += (STATES_LIMIT / 3..=STATES_LIMIT).contains(&n) as u64;
+        }
+    }
+    for (kind, name) in Case::KINDS.iter().enumerate() {
+        for house in HOUSE_LIMIT - 1..=HOUSE_LIMIT + 1 {
+            assert!(houses.contains(&(kind, house)), "{name} {house}");
+        }
+        for n in STATES_LIMIT - 1..=STATES_LIMIT + 1 {
+            let met = states.contains(&(kind, n));
+            assert!(met || *name == "departure", "{name} {n}");
+        }
+    }
+    for length in [BYTES_LIMIT, BYTES_LIMIT + 1] {
+        assert!(lengths.contains(&length), "{length}");
+    }
+    assert!(larger_houses > 600, "{larger_houses}");
+    assert!(more_states > 600, "{more_states}");
+    assert!(many_lines > 20, "{many_lines}");
 }
 
 #[test]

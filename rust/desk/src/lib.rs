@@ -24,10 +24,15 @@
 pub mod ffi;
 
 /// The most states a register may have.
-pub const STATES_LIMIT: usize = 250;
-/// Room for any listing: the longest head, a line for each state and the line of totals, as the
-/// library is proved to.
-pub const LISTING_ROOM: usize = 30 + STATES_LIMIT * 64 + 22;
+pub const STATES_LIMIT: usize = 800;
+/// Room for a listing's first line: `allotment,remainders,30000,800` and its end.
+const HEAD_ROOM: usize = 31;
+/// Room for a state's line: a name of 32 bytes, `,4294967295,30000,2999900.00,high` and its end.
+const LINE_ROOM: usize = 66;
+/// Room for the line of totals: `total,4294967295,30000` and its end.
+const TOTAL_ROOM: usize = 23;
+/// Room for any listing, as the library is proved to.
+pub const LISTING_ROOM: usize = HEAD_ROOM + STATES_LIMIT * LINE_ROOM + TOTAL_ROOM;
 
 /// Why an operation was refused: document 01's number, and the line of the register counted from
 /// 1, or 0 where no line applies.

@@ -6,6 +6,9 @@ use std::fs;
 use std::mem::size_of;
 use std::path::PathBuf;
 
+/// The largest house that the library takes.
+const HOUSE_LIMIT: u64 = 30_000;
+
 fn example(file: &str) -> Vec<u8> {
     let folder = PathBuf::from(env!("CARGO_MANIFEST_DIR")).join("../../examples");
     fs::read(folder.join(file)).expect(file)
@@ -13,10 +16,10 @@ fn example(file: &str) -> Vec<u8> {
 
 #[test]
 fn structures_have_the_sizes_of_the_header() {
-    assert_eq!(size_of::<ffi::Reading>(), 8 * 256);
+    assert_eq!(size_of::<ffi::Reading>(), 8 * (6 + STATES_LIMIT));
     assert_eq!(size_of::<ffi::Allotted>(), 8 * 2);
-    assert_eq!(size_of::<ffi::Placing>(), 8 * 504);
-    assert_eq!(size_of::<ffi::Placed>(), 8 * 505);
+    assert_eq!(size_of::<ffi::Placing>(), 8 * (4 + 2 * STATES_LIMIT));
+    assert_eq!(size_of::<ffi::Placed>(), 8 * (5 + 2 * STATES_LIMIT));
     assert_eq!(size_of::<ffi::Shown>(), 8 * 3);
     assert_eq!(size_of::<ffi::Written>(), 8 * 3);
     assert_eq!(size_of::<ffi::Part>(), 8 * 4);
@@ -128,6 +131,99 @@ fn stepping_ends_at_the_house() {
 }
 
 #[test]
+fn every_method_allots_the_largest_house_to_the_most_states() {
+    // Equal shares of 37 seats and a half: the first half of the states has 38.
+    assert_eq!(STATES_LIMIT, 800);
+    let expected: Vec<u64> = (0..800).map(|i| 37 + (i < 400) as u64).collect();
+    let populations = [5_368_709; STATES_LIMIT];
+    for method in Method::ALL {
+        let mut seats = [0; STATES_LIMIT];
+        let steps = if method == Method::Leximin { 400 } else { 0 };
+        assert_eq!(
+            allot(method, HOUSE_LIMIT, &populations, &mut seats),
+            Ok(steps)
+        );
+        assert_eq!(seats[..], expected, "{method:?}");
+    }
+}
+
+#[test]
+fn past_the_limits_a_house_and_states_are_refused() {
+    let refused = |number| Refusal { number, line: 0 };
+    for method in Method::ALL {
+        let mut seats = [7; STATES_LIMIT + 1];
+        let states = [1; STATES_LIMIT + 1];
+        assert_eq!(
+            allot(method, HOUSE_LIMIT, &states, &mut seats),
+            Err(refused(10))
+        );
+        assert_eq!(
+            allot(
+                method,
+                HOUSE_LIMIT + 1,
+                &states[1..],
+                &mut seats[..STATES_LIMIT]
+            ),
+            Err(refused(11))
+        );
+        assert_eq!(seats, [7; STATES_LIMIT + 1]);
+        assert_eq!(Placing::open(&states, HOUSE_LIMIT), Err(refused(10)));
+        assert_eq!(
+            Placing::open(&states[1..], HOUSE_LIMIT + 1),
+            Err(refused(11))
+        );
+    }
+}
+
+#[test]
+fn a_walk_at_the_limit_ends_at_the_house() {
+    // The last state has all voters but one for each other, and gives up a seat at every step.
+    let states = STATES_LIMIT as u64;
+    let mut populations = [1; STATES_LIMIT];
+    populations[STATES_LIMIT - 1] = 4_294_967_295 - (states - 1);
+    let mut placing = Placing::open(&populations, states).unwrap();
+    assert_eq!(placing.total(), 2 * states - 1);
+    for k in 1..states {
+        let (next, outcome) = placing.step();
+        assert_eq!(outcome, Ok(()));
+        assert_eq!((next.total(), next.steps()), (2 * states - 1 - k, k));
+        placing = next;
+    }
+    assert_eq!(placing.seats(), [1; STATES_LIMIT]);
+    let (_, outcome) = placing.step();
+    assert_eq!(outcome.unwrap_err().number, 20);
+}
+
+#[test]
+fn a_register_at_the_limits_is_read_and_listed() {
+    let register = |house: u64, count: usize| {
+        let states: String = (0..count).map(|i| format!("{i:~>32},5368709\n")).collect();
+        let sum = 5_368_709 * count;
+        format!("register,remainders,{house},{count}\n{states}total,{sum}\n").into_bytes()
+    };
+    let bytes = register(HOUSE_LIMIT, STATES_LIMIT);
+    assert_eq!(
+        read(&bytes).unwrap().populations(),
+        [5_368_709; STATES_LIMIT]
+    );
+    let name_at = |place| name(&bytes, place).map(<[u8]>::to_vec);
+    assert_eq!(name_at(799), Ok(format!("{:~>32}", 799).into_bytes()));
+    assert_eq!(name_at(800).unwrap_err().number, 40);
+    let listing = listing(&bytes).unwrap();
+    assert!(listing.len() <= LISTING_ROOM);
+    assert!(listing.ends_with(b"799,5368709,37,1.35,in\ntotal,4294967200,30000\n"));
+
+    for past in [
+        register(HOUSE_LIMIT + 1, STATES_LIMIT),
+        register(HOUSE_LIMIT, STATES_LIMIT + 1),
+    ] {
+        let refusal = Refusal { number: 3, line: 1 };
+        assert_eq!(read(&past), Err(refusal));
+        assert_eq!(write_listing(&past, &mut []), Err(refusal));
+    }
+}
+
+#[test]
 fn departures_are_shown_and_marked() {
     let shown = |hundredths, mark| Ok(Some(Departure { hundredths, mark }));
     assert_eq!(departure(11, 1, 20, 2), shown(1_000, Mark::In));
@@ -135,4 +231,15 @@ fn departures_are_shown_and_marked() {
     assert_eq!(departure(115_004, 1, 200_000, 2), shown(1_500, Mark::Over));
     assert_eq!(departure(26, 3, 201, 20), shown(-1_376, Mark::High));
     assert_eq!(departure(1, 0, 100, 2), Ok(None));
+    let most = 4_294_967_295;
+    assert_eq!(
+        departure(most, 1, most, HOUSE_LIMIT),
+        shown(299_990_000, Mark::Over)
+    );
+    assert_eq!(
+        departure(most, 1, most, HOUSE_LIMIT + 1)
+            .unwrap_err()
+            .number,
+        30
+    );
 }

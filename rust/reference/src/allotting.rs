@@ -207,10 +207,11 @@ mod tests {
         assert_eq!(largest_remainders(&[1, 4, 7], 8), [0, 3, 5]);
         // Remainders 5, 10, 15, 10, 10 and two seats.
         assert_eq!(largest_remainders(&[1, 2, 3, 7, 12], 5), [0, 0, 1, 1, 3]);
-        // The limits: two remainders of 2,576,982,276, a larger one, and two seats.
-        let populations = [257_724, 1_431_913_489, 2_862_796_082];
+        // The limits: two remainders of 2,576,970,000, a larger one, and two seats.
+        let populations = [85_899, 1_431_741_664, 2_863_139_732];
         assert_eq!(populations.iter().sum::<u64>(), SUM_LIMIT);
-        assert_eq!(largest_remainders(&populations, 9_999), [0, 3_334, 6_665]);
+        let seats = largest_remainders(&populations, HOUSE_LIMIT);
+        assert_eq!(seats, [0, 10_001, 19_999]);
     }
 
     #[test]
@@ -228,14 +229,12 @@ mod tests {
 
     #[test]
     fn quotients_past_64_bits_are_compared_exactly() {
-        // Squares of two counts that differ by 1 at the top of the range, by a(a + 1) past 9,998.
-        let large = Quotient::of(Method::Hill, 4_294_967_295, 9_998);
-        let less = Quotient::of(Method::Hill, 4_294_967_294, 9_998);
-        assert!(large > less);
-        assert!(large.over * less.under > u64::MAX as u128);
-        let large = Quotient::of(Method::Dean, 4_294_967_295, 9_998);
-        let less = Quotient::of(Method::Dean, 4_294_967_294, 9_998);
-        assert!(large > less);
-        assert!(large.over * less.under > u64::MAX as u128);
+        // Two counts that differ by 1 at the top of the range, each wanting the last seat.
+        for method in [Method::Hill, Method::Dean] {
+            let large = Quotient::of(method, SUM_LIMIT, HOUSE_LIMIT - 1);
+            let less = Quotient::of(method, SUM_LIMIT - 1, HOUSE_LIMIT - 1);
+            assert!(large > less);
+            assert!(large.over * less.under > u64::MAX as u128);
+        }
     }
 }

@@ -3,6 +3,7 @@
 
 use crate::{check_problem, refusal, Refusal, STATES_LIMIT};
 use std::cmp::{Ordering, Reverse};
+use std::iter::successors;
 
 /// The size of a departure, |pH − aP| / (aP).
 #[derive(Clone, Copy, Debug)]
@@ -157,6 +158,18 @@ pub fn open(populations: &[u64], house: u64) -> Result<Placing, Refusal> {
     placing.populations[..n].copy_from_slice(populations);
     placing.seats[..n].copy_from_slice(&start);
     Ok(placing)
+}
+
+/// Every placing on the way from the opening to the house, both included.
+pub fn way(populations: &[u64], house: u64) -> Result<impl Iterator<Item = Placing>, Refusal> {
+    let opened = open(populations, house)?;
+    Ok(successors(Some(opened), |placing| {
+        let mut next = *placing;
+        (next.total != next.house).then(|| {
+            next.move_one_seat();
+            next
+        })
+    }))
 }
 
 impl Placing {

@@ -10,14 +10,14 @@ mod register;
 
 pub use allotting::{allot, check_problem};
 pub use departure::{departure, mark_name, shown, Mark};
-pub use leximin::{open, search, Placing};
+pub use leximin::{open, search, way, Placing};
 pub use listing::{listing, write_listing};
 pub use register::{name, read, Register};
 
 /// The most states a register may have.
-pub const STATES_LIMIT: usize = 250;
+pub const STATES_LIMIT: usize = 800;
 /// The largest house.
-pub const HOUSE_LIMIT: u64 = 9_999;
+pub const HOUSE_LIMIT: u64 = 30_000;
 /// The largest sum of populations.
 pub const SUM_LIMIT: u64 = 4_294_967_295;
 /// The most bytes a register may have.

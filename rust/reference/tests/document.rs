@@ -74,6 +74,17 @@ fn steps_are_the_gap_under_leximin_and_0_otherwise() {
 }
 
 #[test]
+fn every_method_allots_the_largest_house_to_the_most_states() {
+    // Equal shares of 37 seats and a half: the first half of the states has 38.
+    let states = STATES_LIMIT as u64;
+    let populations = [SUM_LIMIT / states; STATES_LIMIT];
+    let expected: Vec<u64> = (0..states).map(|i| 37 + (i < 400) as u64).collect();
+    for method in Method::ALL {
+        assert_eq!(seats(method, HOUSE_LIMIT, &populations), expected);
+    }
+}
+
+#[test]
 fn allotting_is_refused_in_the_order_of_the_document() {
     let refused = |method, house, populations: &[u64], room| {
         let mut seats = vec![77; room];
@@ -83,14 +94,14 @@ fn allotting_is_refused_in_the_order_of_the_document() {
         refusal.number
     };
     assert_eq!(refused(Leximin, 0, &[], 1), 10);
-    assert_eq!(refused(Leximin, 0, &[0; 251], 1), 10);
+    assert_eq!(refused(Leximin, 0, &[0; STATES_LIMIT + 1], 1), 10);
     assert_eq!(refused(Leximin, 0, &[0, u64::MAX], 1), 11);
-    assert_eq!(refused(Leximin, 10_000, &[0, u64::MAX], 1), 11);
+    assert_eq!(refused(Leximin, HOUSE_LIMIT + 1, &[0, u64::MAX], 1), 11);
     assert_eq!(refused(Leximin, 1, &[u64::MAX, u64::MAX, 0], 1), 12);
     assert_eq!(refused(Leximin, 1, &[u64::MAX, u64::MAX], 1), 13);
-    assert_eq!(refused(Leximin, 1, &[4_294_967_295, 1], 1), 13);
-    assert_eq!(refused(Leximin, 1, &[4_294_967_294, 1], 1), 14);
-    assert_eq!(refused(Leximin, 1, &[4_294_967_294, 1], 3), 14);
+    assert_eq!(refused(Leximin, 1, &[SUM_LIMIT, 1], 1), 13);
+    assert_eq!(refused(Leximin, 1, &[SUM_LIMIT - 1, 1], 1), 14);
+    assert_eq!(refused(Leximin, 1, &[SUM_LIMIT - 1, 1], 3), 14);
     for method in [Leximin, Adams, Dean, Hill] {
         assert_eq!(refused(method, 2, &[5, 5, 5], 3), 15);
     }
@@ -106,6 +117,8 @@ fn stepping_reaches_the_house_and_stays_there() {
     let populations = [26, 27, 28, 29, 91];
     let opened = open(&populations, 20).unwrap();
     let gap = opened.total.abs_diff(20);
+    let on_the_way: Vec<Placing> = way(&populations, 20).unwrap().collect();
+    assert_eq!(on_the_way.len() as u64, gap + 1);
     let mut placing = opened;
     for k in 1..=gap + 3 {
         let (next, outcome) = placing.step();
@@ -113,6 +126,7 @@ fn stepping_reaches_the_house_and_stays_there() {
             assert_eq!(outcome, Ok(()));
             assert_eq!(next.steps, k);
             assert_eq!(next.total.abs_diff(opened.total), k);
+            assert_eq!(next, on_the_way[k as usize]);
         } else {
             assert_eq!(outcome.unwrap_err().number, 20);
             assert_eq!(next, placing);
@@ -123,11 +137,31 @@ fn stepping_reaches_the_house_and_stays_there() {
 }
 
 #[test]
+fn a_walk_can_have_as_many_steps_as_there_are_other_states() {
+    // The first state has all voters but one for each other, and gives up a seat at every step.
+    let states = STATES_LIMIT as u64;
+    let mut populations = [1; STATES_LIMIT];
+    populations[0] = SUM_LIMIT - (states - 1);
+    let on_the_way: Vec<Placing> = way(&populations, states).unwrap().collect();
+    assert_eq!(on_the_way.len(), STATES_LIMIT);
+    for (k, placing) in (0..).zip(&on_the_way) {
+        assert_eq!((placing.seats[0], placing.steps), (states - k, k));
+        assert!(placing.seats[1..].iter().all(|&a| a == 1));
+    }
+    assert_eq!(
+        on_the_way[STATES_LIMIT - 2].step(),
+        (on_the_way[STATES_LIMIT - 1], Ok(()))
+    );
+    let (_, outcome) = on_the_way[STATES_LIMIT - 1].step();
+    assert_eq!(outcome.unwrap_err().number, 20);
+}
+
+#[test]
 fn opening_is_refused_in_the_order_of_the_document() {
     let refused = |populations: &[u64], house| open(populations, house).unwrap_err().number;
     assert_eq!(refused(&[], 0), 10);
-    assert_eq!(refused(&[0; 251], 0), 10);
-    assert_eq!(refused(&[0], 10_000), 11);
+    assert_eq!(refused(&[0; STATES_LIMIT + 1], 0), 10);
+    assert_eq!(refused(&[0], HOUSE_LIMIT + 1), 11);
     assert_eq!(refused(&[u64::MAX, 0], 1), 12);
     assert_eq!(refused(&[u64::MAX, 1], 1), 13);
     assert_eq!(refused(&[5, 5, 5], 2), 15);
@@ -147,9 +181,13 @@ fn forged_placings_are_refused_21_and_come_back_as_they_were() {
         ("overstated steps", |p| p.steps = 2),
         ("steps past all bounds", |p| p.steps = u64::MAX),
         ("a seat past its states", |p| p.seats[2] = 1),
-        ("a population past its states", |p| p.populations[249] = 1),
+        ("a population past its states", |p| {
+            p.populations[STATES_LIMIT - 1] = 1
+        }),
         ("no states", |p| p.states = 0),
-        ("more states than the limit", |p| p.states = 251),
+        ("more states than the limit", |p| {
+            p.states = STATES_LIMIT as u64 + 1
+        }),
         ("more states than a list can hold", |p| p.states = u64::MAX),
         ("another house", |p| p.house = 4),
         ("nothing at all", |p| {
@@ -158,8 +196,8 @@ fn forged_placings_are_refused_21_and_come_back_as_they_were() {
                 house: 0,
                 total: 0,
                 steps: 0,
-                populations: [0; 250],
-                seats: [0; 250],
+                populations: [0; STATES_LIMIT],
+                seats: [0; STATES_LIMIT],
             }
         }),
     ];
@@ -199,12 +237,10 @@ fn halves_are_rounded_away_from_zero() {
     assert_eq!(shown(Some(0)), "0.00");
     assert_eq!(shown(Some(-1)), "-0.01");
     assert_eq!(shown(Some(-110)), "-1.10");
-    assert_eq!(
-        hundredths(4_294_967_295, 1, 4_294_967_295, 9_999),
-        99_980_000
-    );
-    assert_eq!(shown(Some(99_980_000)), "999800.00");
-    assert_eq!(hundredths(1, 9_999, 4_294_967_295, 9_999), -10_000);
+    let largest = hundredths(SUM_LIMIT, 1, SUM_LIMIT, HOUSE_LIMIT);
+    assert_eq!(largest, 299_990_000);
+    assert_eq!(shown(Some(largest)), "2999900.00");
+    assert_eq!(hundredths(1, HOUSE_LIMIT, SUM_LIMIT, HOUSE_LIMIT), -10_000);
 }
 
 #[test]
@@ -226,8 +262,8 @@ fn departure_is_refused_outside_the_limits() {
         (2, 1, 1, 1),
         (1, 2, 1, 1),
         (1, 1, 1, 0),
-        (1, 1, 1, 10_000),
-        (1, 1, 4_294_967_296, 1),
+        (1, 1, 1, HOUSE_LIMIT + 1),
+        (1, 1, SUM_LIMIT + 1, 1),
         (u64::MAX, u64::MAX, u64::MAX, u64::MAX),
     ] {
         assert_eq!(refused(p, a, total, house), 30);
@@ -247,13 +283,22 @@ fn a_register_is_read() {
 
 #[test]
 fn limits_of_the_document() {
-    assert!(read(ones("adams", 9_999, 250).as_bytes()).is_ok());
-    assert_eq!(refused(&ones("adams", 10_000, 250)), (3, 1));
-    assert_eq!(refused(&ones("adams", 9_999, 251)), (3, 1));
+    assert_eq!((HOUSE_LIMIT, STATES_LIMIT), (30_000, 800));
+    let register = ones("adams", HOUSE_LIMIT, STATES_LIMIT);
+    let read_back = read(register.as_bytes()).unwrap();
+    assert_eq!((read_back.house, read_back.names.len()), (30_000, 800));
+    assert_eq!(
+        refused(&ones("adams", HOUSE_LIMIT + 1, STATES_LIMIT)),
+        (3, 1)
+    );
+    assert_eq!(
+        refused(&ones("adams", HOUSE_LIMIT, STATES_LIMIT + 1)),
+        (3, 1)
+    );
     assert_eq!(refused(""), (2, 1));
     assert_eq!(refused("register,hill,3,2\nA,1\nB,0\ntotal,9\n"), (3, 3));
-    assert_eq!(refused(&"x".repeat(65_536)), (2, 1));
-    assert_eq!(refused(&"x".repeat(65_537)), (1, 0));
+    assert_eq!(refused(&"x".repeat(BYTES_LIMIT)), (2, 1));
+    assert_eq!(refused(&"x".repeat(BYTES_LIMIT + 1)), (1, 0));
     let house_below_states = ones("leximin", 2, 3);
     assert!(read(house_below_states.as_bytes()).is_ok());
     let refusal = listing(house_below_states.as_bytes()).unwrap_err();
@@ -386,9 +431,15 @@ fn a_listing_fits_exactly_or_is_refused_31() {
 }
 
 #[test]
-fn a_listing_is_never_longer_than_16_052_bytes() {
-    let longest_head = "allotment,remainders,9999,250\n".len();
-    let longest_state = 32 + ",4294967295,9999,999800.00,high\n".len();
-    let longest_closing = "total,4294967295,9999\n".len();
-    assert_eq!(longest_head + 250 * longest_state + longest_closing, 16_052);
+fn a_listing_is_never_longer_than_52_854_bytes() {
+    let longest_head = format!("allotment,remainders,{HOUSE_LIMIT},{STATES_LIMIT}\n").len();
+    let largest = departure(SUM_LIMIT, 1, SUM_LIMIT, HOUSE_LIMIT).unwrap();
+    let departure = shown(largest.map(|(hundredths, _)| hundredths));
+    let longest_state = 32 + format!(",{SUM_LIMIT},{HOUSE_LIMIT},{departure},high\n").len();
+    let longest_closing = format!("total,{SUM_LIMIT},{HOUSE_LIMIT}\n").len();
+    assert_eq!((longest_head, longest_state, longest_closing), (31, 66, 23));
+    assert_eq!(
+        longest_head + STATES_LIMIT * longest_state + longest_closing,
+        52_854
+    );
 }
