@@ -6,7 +6,14 @@ use crate::worst::{Results, Timed};
 use reference::Method;
 
 /// The numbers of states.
-const GROWTH: [usize; 6] = [40, 80, 120, 160, 200, STATES];
+const GROWTH: [usize; 6] = [
+    STATES / 16,
+    STATES / 8,
+    STATES / 4,
+    STATES / 2,
+    STATES / 4 * 3,
+    STATES,
+];
 /// Repeats of each input, the best of which counts.
 const REPEATS: u32 = 40;
 
