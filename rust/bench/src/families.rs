@@ -181,6 +181,9 @@ mod tests {
     #[test]
     fn no_house_is_tried_twice() {
         let houses = houses(STATES as u64);
-        assert!(houses.windows(2).all(|pair| pair[0] < pair[1]), "{houses:?}");
+        assert!(
+            houses.windows(2).all(|pair| pair[0] < pair[1]),
+            "{houses:?}"
+        );
     }
 }

@@ -89,7 +89,11 @@ fn sweep(populations: &[u64]) -> Vec<Swept> {
         }
     }
     let swept = best.iter().map(|times| {
-        let timed: Vec<f64> = times.iter().copied().filter(|time| time.is_finite()).collect();
+        let timed: Vec<f64> = times
+            .iter()
+            .copied()
+            .filter(|time| time.is_finite())
+            .collect();
         Swept {
             average: timed.iter().sum::<f64>() / timed.len() as f64,
             slowest: timed.iter().copied().fold(0.0, f64::max),
@@ -122,7 +126,9 @@ fn print_rows(rows: &[Row]) {
         "Every house from {STATES_LIMIT} to {} under leximin at {STATES_LIMIT} states, by kinds of populations: the whole",
         commas(HOUSE_LIMIT)
     );
-    println!("sweep in ms, one house on average and the slowest house in µs, each house at the best of");
+    println!(
+        "sweep in ms, one house on average and the slowest house in µs, each house at the best of"
+    );
     println!("{PASSES} sweeps. The quickest plain program is the one whose sweep is shortest. The reference");
     println!(
         "has every {SAMPLE}rd house only, {sampled} of {}; its sweep is reckoned from them:\n",
@@ -161,7 +167,10 @@ fn print_scaled(rows: &[Row], scales: &[(&str, f64)]) {
         YARDSTICK / 1e6
     );
     println!("yardstick by one of these programs:\n");
-    let heads: Vec<String> = scales.iter().map(|(name, _)| format!("by the {name}")).collect();
+    let heads: Vec<String> = scales
+        .iter()
+        .map(|(name, _)| format!("by the {name}"))
+        .collect();
     println!("| | here | {} |", heads.join(" | "));
     println!("|---|--:|{}", "--:|".repeat(heads.len()));
     for Row { kind, swept } in rows {

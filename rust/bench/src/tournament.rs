@@ -49,7 +49,9 @@ impl<'a, const PLACING: bool> Tournament<'a, PLACING> {
     fn new(house: u64, sum: u64, populations: &'a [u64], seats: &'a mut [u64]) -> Self {
         let states = populations.len();
         let quotients = populations.iter().zip(seats.iter());
-        let quotients = quotients.map(|(&p, &a)| quotient::<PLACING>(p, a)).collect();
+        let quotients = quotients
+            .map(|(&p, &a)| quotient::<PLACING>(p, a))
+            .collect();
         let mut tree = vec![0; states];
         tree.extend(0..states as u16);
         let mut tournament = Tournament {

@@ -13,12 +13,7 @@ const REPEATS: u32 = 40;
 
 /// Times the programs on the yardstick and prints a line of them.
 pub fn print_it() -> Times {
-    let times = Times::of(
-        Method::Hill,
-        HOUSE,
-        &ordinary(STATES, HOUSE, 1),
-        REPEATS,
-    );
+    let times = Times::of(Method::Hill, HOUSE, &ordinary(STATES, HOUSE, 1), REPEATS);
     let shown: Vec<String> = programs(Method::Hill)
         .iter()
         .enumerate()
