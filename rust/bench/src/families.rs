@@ -8,37 +8,19 @@ pub const STATES: usize = STATES_LIMIT;
 
 /// The houses tried at a number of states, in rising order. Most are even shares of it. At the
 /// others rounding equal shares leaves most seats to move under one method or another: they lie at
-/// the first house past 4/3, √2 and 3/2 seats a state, where Dean and leximin, Hill and Webster turn
-/// to rounding up, and beside whole numbers of seats, where Adams rounds up by nearly a seat a state
-/// and Jefferson down.
+/// the first house from 4/3, √2 and 3/2 seats a state on, where Dean and leximin, Hill and Webster
+/// turn to rounding up, and beside whole numbers of seats, where Adams rounds up by nearly a seat a
+/// state and Jefferson down.
 pub fn houses(states: u64) -> Vec<u64> {
+    // In sixtieths of the states.
     let even = [
-        (4, 25),
-        (1, 4),
-        (1, 3),
-        (2, 5),
-        (1, 2),
-        (2, 3),
-        (4, 5),
-        (1, 1),
-        (6, 5),
-        (8, 5),
-        (9, 5),
-        (2, 1),
-        (12, 5),
-        (35, 12),
-        (4, 1),
-        (5, 1),
-        (6, 1),
-        (7, 1),
-        (42, 5),
+        10, 15, 20, 24, 30, 40, 48, 60, 72, 96, 108, 120, 144, 175, 240, 300, 360, 420, 504,
     ];
     // 99/70 stands for √2.
     let turns = [(4, 3), (99, 70), (3, 2), (7, 2)];
-    let beside = [states - 1, states + 1, 2 * states - 1, 3 * states - 1];
-    let mut houses = beside.to_vec();
-    houses.extend(even.map(|(seats, among)| states * seats / among));
-    houses.extend(turns.map(|(seats, among)| (states * seats).div_ceil(among)));
+    let mut houses = vec![states - 1, states + 1, 2 * states - 1, 3 * states - 1];
+    houses.extend(even.map(|share| states * share / 60));
+    houses.extend(turns.map(|(over, under)| (states * over).div_ceil(under)));
     houses.sort();
     houses
 }

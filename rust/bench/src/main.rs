@@ -102,10 +102,10 @@ fn operations() {
         .collect();
     println!("Library's time over the reference's, by states × house (below 1 the library is");
     println!("faster; a dash where the house is below the states and the method refuses it).");
+    println!("Names have 17 to 19 bytes; the longest lines have names of 32, numbers of 10 digits");
     println!(
-        "Names have 17 to 19 bytes; the longest lines have names of 32, numbers of 10 digits and"
+        "and CR LF at their end, and {STATES_LIMIT} of them make the longest register there is:\n"
     );
-    println!("CR LF at their end, and at {STATES_LIMIT} states they are the longest register that there is:\n");
     print_table(&heads, &rows, |(library, reference)| {
         format!("{:.2}", library / reference)
     });

@@ -123,17 +123,20 @@ fn print_rows(rows: &[Row]) {
     let all = houses().count();
     let sampled = houses().filter(|&house| has_turn(REFERENCE, house)).count();
     println!(
-        "Every house from {STATES_LIMIT} to {} under leximin at {STATES_LIMIT} states, by kinds of populations: the whole",
+        "Every house from {STATES_LIMIT} to {} under leximin at {STATES_LIMIT} states, by kinds of",
         commas(HOUSE_LIMIT)
     );
     println!(
-        "sweep in ms, one house on average and the slowest house in µs, each house at the best of"
+        "populations: the whole sweep in ms, one house on average and the slowest house in µs,"
     );
-    println!("{PASSES} sweeps. The quickest plain program is the one whose sweep is shortest. The reference");
     println!(
-        "has every {SAMPLE}rd house only, {sampled} of {}; its sweep is reckoned from them:\n",
+        "each house at the best of {PASSES} sweeps. The quickest plain program is the one whose"
+    );
+    println!(
+        "sweep is shortest. The reference has one house in {SAMPLE}, {sampled} of {}, and its sweep",
         commas(all as u64)
     );
+    println!("is reckoned from them:\n");
     println!(
         "| | library: sweep | one | slowest | quickest plain | its sweep | one | slowest | \
          library over it | reference: sweep | one | slowest |"
@@ -162,11 +165,11 @@ fn print_rows(rows: &[Row]) {
 /// The library's averages on the machine of the targets, reckoned by each program that has the
 /// yardstick.
 fn print_scaled(rows: &[Row], scales: &[(&str, f64)]) {
+    println!("\nOne house by the library on average, in µs: here, and on a machine on which one of these");
     println!(
-        "\nOne house by the library on average, in µs, here and on a machine that takes {:.1} ms for the",
+        "programs takes {:.1} ms for that problem:\n",
         YARDSTICK / 1e6
     );
-    println!("yardstick by one of these programs:\n");
     let heads: Vec<String> = scales
         .iter()
         .map(|(name, _)| format!("by the {name}"))
