@@ -109,9 +109,10 @@ fn cells(
     }: &Timed,
 ) -> String {
     format!(
-        "{:.2} | {} | {house} | {} | {} | {}",
+        "{:.2} | {} | {} | {} | {} | {}",
         times.ratio(),
         FAMILIES[*family].name,
+        commas(*house),
         micros(times.library()),
         micros(times.plain()),
         programs(method)[times.fastest()].0
@@ -134,7 +135,7 @@ fn print_programs(results: &[Results]) {
                 method.name(),
                 ratio(worst),
                 FAMILIES[worst.family].name,
-                worst.house,
+                commas(worst.house),
                 micros(worst.times.library()),
                 micros(worst.times.of_program(place)),
                 timed.iter().filter(|timed| ratio(timed) > 1.0).count(),
@@ -168,7 +169,7 @@ fn print_families(results: &[Results]) {
             .map(|results| {
                 let worst = results.timed.iter().find(|timed| timed.family == family);
                 let worst = worst.expect("an input of the family");
-                format!("{:.2} ({})", worst.times.ratio(), worst.house)
+                format!("{:.2} ({})", worst.times.ratio(), commas(worst.house))
             })
             .collect();
         println!("| {} | {} |", of.name, cells.join(" | "));
