@@ -25,7 +25,7 @@ const PASSES: u32 = 5;
 /// Houses after which the programs take turns.
 const TURN: usize = 100;
 /// The reference goes through all states for each seat that it moves, which takes too long for
-/// every house; it has each of so many. A prime, so that no tie is met or missed every time.
+/// every house; it has one in so many. A prime, so that no tie is met or missed every time.
 const SAMPLE: u64 = 293;
 /// Targets are set for a machine on which the yardstick takes so long, in nanoseconds.
 const YARDSTICK: f64 = 1_500_000.0;
