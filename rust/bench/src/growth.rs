@@ -1,12 +1,19 @@
 //! How the cost grows with the number of states, on each method's worst input.
 
 use crate::families::{FAMILIES, STATES};
-use crate::plain::{micros, Times};
+use crate::plain::{commas, micros, Times};
 use crate::worst::{Results, Timed};
 use reference::Method;
 
 /// The numbers of states.
-const GROWTH: [usize; 6] = [40, 80, 120, 160, 200, STATES];
+const GROWTH: [usize; 6] = [
+    STATES / 16,
+    STATES / 8,
+    STATES / 4,
+    STATES / 2,
+    STATES / 4 * 3,
+    STATES,
+];
 /// Repeats of each input, the best of which counts.
 const REPEATS: u32 = 40;
 
@@ -22,7 +29,7 @@ pub fn print_it(results: &[Results]) {
     for Results { method, timed } in results {
         let worst = &timed[0];
         let grown = GROWTH.map(|states| grown(*method, worst, states));
-        let houses: Vec<String> = grown.iter().map(|(house, _)| house.to_string()).collect();
+        let houses: Vec<String> = grown.iter().map(|(house, _)| commas(*house)).collect();
         let row = |time: fn(&Times) -> f64| {
             let times: Vec<f64> = grown.iter().map(|(_, times)| time(times)).collect();
             let cells: Vec<String> = times.iter().map(|&time| micros(time)).collect();

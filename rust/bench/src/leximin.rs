@@ -1,5 +1,4 @@
-//! The best plain program we know for leximin: from the nearest seats to the house by a heap of
-//! moves, exact by cross-multiplication.
+//! Leximin from the nearest seats to the house by a heap of moves, exact by cross-multiplication.
 
 use reference::{check_problem, Method};
 use std::cmp::Ordering;
@@ -74,13 +73,7 @@ impl<const PLACING: bool> Eq for Move<PLACING> {}
 pub fn from_nearest(_: Method, house: u64, populations: &[u64], seats: &mut [u64]) {
     check_problem(populations, house).expect("a sound problem");
     let sum: u64 = populations.iter().sum();
-    let mut total = 0;
-    for (seats, &p) in seats.iter_mut().zip(populations) {
-        let below = p * house / sum;
-        let one_more = one_more_size(p, below, house, sum).is_lt();
-        *seats = below + one_more as u64;
-        total += *seats;
-    }
+    let total = fill_nearest(house, sum, populations, seats);
     if total < house {
         let left = house - place_level(house, sum, total, populations, seats);
         place(house, sum, left, populations, seats);
@@ -89,24 +82,27 @@ pub fn from_nearest(_: Method, house: u64, populations: &[u64], seats: &mut [u64
     }
 }
 
-/// The size with a + 1 seats beside the size with a, where the share lies between them:
-/// (a + 1)P − pH over (a + 1)P beside pH − aP over aP. With no seats every size is less.
-fn one_more_size(p: u64, a: u64, house: u64, sum: u64) -> Ordering {
-    let share = p * house;
-    let (present, new) = (a * sum, (a + 1) * sum);
-    // Both over P, which leaves the numbers of seats below.
-    let left = (new - share) as u128 * a as u128;
-    let right = (share - present) as u128 * (a + 1) as u128;
-    if a == 0 {
-        Ordering::Less
-    } else {
-        left.cmp(&right)
+/// Gives each state its nearest seats, the fewer of two equally near; hands back their total.
+pub fn fill_nearest(house: u64, sum: u64, populations: &[u64], seats: &mut [u64]) -> u64 {
+    let mut total = 0;
+    for (seats, &p) in seats.iter_mut().zip(populations) {
+        let below = p * house / sum;
+        let one_more = one_more_size(below, p * house - below * sum, sum).is_lt();
+        *seats = below + one_more as u64;
+        total += *seats;
     }
+    total
+}
+
+/// The size with a + 1 seats beside the size with a, where the share pH / P is a and r / P:
+/// (P − r) / (a + 1) beside r / a, cross-multiplied. With no seats every size is less.
+fn one_more_size(a: u64, r: u64, sum: u64) -> Ordering {
+    (a * sum).cmp(&((2 * a + 1) * r))
 }
 
 /// Gives a seat to each state whose size it leaves as it is, in register order, until the house
 /// is reached; hands back the total.
-fn place_level(
+pub fn place_level(
     house: u64,
     sum: u64,
     mut total: u64,
@@ -114,8 +110,9 @@ fn place_level(
     seats: &mut [u64],
 ) -> u64 {
     for (seats, &p) in seats.iter_mut().zip(populations) {
-        let between = *seats * sum <= p * house;
-        if total < house && between && one_more_size(p, *seats, house, sum).is_eq() {
+        let (share, seated) = (p * house, *seats * sum);
+        let level = seated <= share && one_more_size(*seats, share - seated, sum).is_eq();
+        if total < house && level {
             *seats += 1;
             total += 1;
         }

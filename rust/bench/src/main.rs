@@ -1,7 +1,8 @@
 //! Times the proved desk and the plain reference on the same inputs in one run and prints two
 //! Markdown tables: the library's time over the reference's, and the library's own times. With the
 //! word `programs` it times whole programs at the limits instead, with the word `worst` inputs full
-//! of ties beside the fastest plain programs. Build it with `--release`.
+//! of ties beside the fastest plain programs, and with the word `sweep` every house under leximin
+//! for several kinds of populations. Build it with `--release`.
 
 mod families;
 mod growth;
@@ -10,13 +11,17 @@ mod leximin;
 mod plain;
 mod programs;
 mod sweep;
+mod tournament;
 mod worst;
+mod yardstick;
 
+use plain::commas;
+use reference::{HOUSE_LIMIT, STATES_LIMIT};
 use std::hint::black_box;
 use std::time::{Duration, Instant};
 
-const STATES: [usize; 3] = [10, 50, 250];
-const HOUSES: [u64; 3] = [100, 1_000, 9_999];
+const STATES: [usize; 3] = [10, 100, STATES_LIMIT];
+const HOUSES: [u64; 3] = [100, 1_000, HOUSE_LIMIT];
 const METHODS: [&str; 7] = [
     "leximin",
     "adams",
@@ -32,24 +37,31 @@ const INPUTS: u64 = 4;
 const REPEATS: u32 = 40;
 /// A repeat lasts at least so long: short, so that some escape every interruption.
 const SPAN: Duration = Duration::from_micros(200);
+/// No more repeats are begun after so long, once there are a few: the reference takes most of a
+/// second to step through many states.
+const ENOUGH: Duration = Duration::from_secs(1);
+const FEW: u32 = 3;
 
 /// The library's and the reference's time for one call, in nanoseconds.
 type Times = (f64, f64);
 
-/// One register of a shape, with its populations.
+/// One problem of a shape: its populations, a leximin register of it, and the longest register
+/// that it has.
 struct Input {
     house: u64,
     populations: Vec<u64>,
     bytes: Vec<u8>,
+    longest: Vec<u8>,
 }
 
 fn main() {
     match std::env::args().nth(1).as_deref() {
         None => operations(),
-        Some("programs") => programs::time_them(&input(250, 9_999, 1).bytes),
+        Some("programs") => programs::time_them(&input(STATES_LIMIT, HOUSE_LIMIT, 1).bytes),
         Some("plain") => programs::be_plain(),
-        Some("worst") => worst::time_it(&input(250, 9_999, 1).populations),
-        Some(_) => eprintln!("usage: bench [programs | worst]"),
+        Some("worst") => worst::time_it(),
+        Some("sweep") => sweep::print_it(),
+        Some(_) => eprintln!("usage: bench [programs | worst | sweep]"),
     }
 }
 
@@ -71,17 +83,29 @@ fn operations() {
     }
     let times = shapes.iter().map(|(.., inputs)| stepping(inputs));
     rows.push(("open and step to the house".into(), times.collect()));
-    let times = shapes.iter().map(|(.., inputs)| Some(reading(inputs)));
-    rows.push(("read".into(), times.collect()));
-    let times = shapes.iter().map(|(.., inputs)| listing(inputs));
-    rows.push(("listing, leximin".into(), times.collect()));
+    let ordinary: Register = |input| &input.bytes;
+    let longest: Register = |input| &input.longest;
+    for (name, register) in [("read", ordinary), ("read, longest lines", longest)] {
+        let times = shapes.iter();
+        let times = times.map(|(.., inputs)| Some(reading(inputs, register)));
+        rows.push((name.into(), times.collect()));
+    }
+    let of_remainders = "listing, remainders, longest lines";
+    for (name, register) in [("listing, leximin", ordinary), (of_remainders, longest)] {
+        let times = shapes.iter().map(|(.., inputs)| listing(inputs, register));
+        rows.push((name.into(), times.collect()));
+    }
 
     let heads: Vec<String> = shapes
         .iter()
-        .map(|(states, house, _)| format!("{states} × {house}"))
+        .map(|(states, house, _)| format!("{states} × {}", commas(*house)))
         .collect();
     println!("Library's time over the reference's, by states × house (below 1 the library is");
-    println!("faster; a dash where the house is below the states and the method refuses it):\n");
+    println!("faster; a dash where the house is below the states and the method refuses it).");
+    println!("Names have 17 to 19 bytes; the longest lines have names of 32, numbers of 10 digits");
+    println!(
+        "and CR LF at their end, and {STATES_LIMIT} of them make the longest register there is:\n"
+    );
     print_table(&heads, &rows, |(library, reference)| {
         format!("{:.2}", library / reference)
     });
@@ -109,27 +133,37 @@ fn print_table(
 
 // ---- Inputs
 
-/// A leximin register whose populations spread over three powers of ten.
+/// A problem with populations spread over three powers of ten.
 fn input(states: usize, house: u64, seed: u64) -> Input {
-    let mut number = seed.wrapping_mul(0x9E37_79B9_7F4A_7C15) ^ house ^ ((states as u64) << 32);
-    let populations: Vec<u64> = (0..states)
-        .map(|_| {
-            number ^= number << 13;
-            number ^= number >> 7;
-            number ^= number << 17;
-            (10_000.0 * 1_000f64.powf((number >> 11) as f64 / (1u64 << 53) as f64)) as u64
-        })
-        .collect();
-    let mut text = format!("register,leximin,{house},{states}\n");
+    let populations = families::ordinary(states, house, seed);
+    Input {
+        house,
+        bytes: register(house, &populations),
+        longest: longest_register(house, &populations),
+        populations,
+    }
+}
+
+/// A leximin register with names of ordinary length.
+fn register(house: u64, populations: &[u64]) -> Vec<u8> {
+    let mut text = format!("register,leximin,{house},{}\n", populations.len());
     for (i, population) in populations.iter().enumerate() {
         text += &format!("County of Saint {i},{population}\n");
     }
     text += &format!("total,{}\n", populations.iter().sum::<u64>());
-    Input {
-        house,
-        populations,
-        bytes: text.into_bytes(),
+    text.into_bytes()
+}
+
+/// The longest register of a problem: the longest method, names of 32 bytes, numbers of 10 digits,
+/// and lines that end in two bytes.
+fn longest_register(house: u64, populations: &[u64]) -> Vec<u8> {
+    let states = populations.len();
+    let mut text = format!("register,remainders,{house:010},{states:010}\r\n");
+    for (i, population) in populations.iter().enumerate() {
+        text += &format!("County of Saint {i:016},{population:010}\r\n");
     }
+    text += &format!("total,{:010}\r\n", populations.iter().sum::<u64>());
+    text.into_bytes()
 }
 
 // ---- Operations
@@ -189,33 +223,36 @@ fn stepping(inputs: &[Input]) -> Option<Times> {
     Some(time(inputs, library, plain))
 }
 
-fn reading(inputs: &[Input]) -> Times {
+/// One of an input's registers.
+type Register = fn(&Input) -> &[u8];
+
+fn reading(inputs: &[Input], register: Register) -> Times {
     for input in inputs {
-        let library = desk::read(&input.bytes).expect("a sound register");
-        let plain = reference::read(&input.bytes).expect("a sound register");
+        let library = desk::read(register(input)).expect("a sound register");
+        let plain = reference::read(register(input)).expect("a sound register");
         assert_eq!(library.populations(), plain.populations);
     }
     time(
         inputs,
-        |input| black_box(desk::read(black_box(&input.bytes))).is_ok(),
-        |input| black_box(reference::read(black_box(&input.bytes))).is_ok(),
+        |input| black_box(desk::read(black_box(register(input)))).is_ok(),
+        |input| black_box(reference::read(black_box(register(input)))).is_ok(),
     )
 }
 
-/// Writing listings into the same buffer over and over; none where leximin refuses.
-fn listing(inputs: &[Input]) -> Option<Times> {
+/// Writing listings into the same buffer over and over; none where the method refuses.
+fn listing(inputs: &[Input], register: Register) -> Option<Times> {
     let mut out = vec![0; desk::LISTING_ROOM];
     let mut other = out.clone();
     for input in inputs {
-        let length = desk::write_listing(&input.bytes, &mut out).ok()?;
-        let plain = reference::write_listing(&input.bytes, &mut other);
+        let length = desk::write_listing(register(input), &mut out).ok()?;
+        let plain = reference::write_listing(register(input), &mut other);
         assert_eq!(plain, Ok(length));
         assert_eq!(out[..length], other[..length]);
     }
     Some(time(
         inputs,
-        |input| desk::write_listing(black_box(&input.bytes), &mut out).is_ok(),
-        |input| reference::write_listing(black_box(&input.bytes), &mut other).is_ok(),
+        |input| desk::write_listing(black_box(register(input)), &mut out).is_ok(),
+        |input| reference::write_listing(black_box(register(input)), &mut other).is_ok(),
     ))
 }
 
@@ -233,7 +270,11 @@ fn time<A, B>(
         let mut plain = || plain(input);
         let calls = (calls(&mut library), calls(&mut plain));
         let mut best = (f64::INFINITY, f64::INFINITY);
-        for _ in 0..REPEATS {
+        let start = Instant::now();
+        for done in 0..REPEATS {
+            if done >= FEW && start.elapsed() > ENOUGH {
+                break;
+            }
             best.0 = best.0.min(repeat(calls.0, &mut library));
             best.1 = best.1.min(repeat(calls.1, &mut plain));
         }
@@ -263,4 +304,18 @@ fn repeat<A>(calls: u32, run: &mut impl FnMut() -> A) -> f64 {
         black_box(run());
     }
     start.elapsed().as_nanos() as f64 / calls as f64
+}
+
+#[cfg(test)]
+mod tests {
+    use super::*;
+
+    #[test]
+    fn the_longest_register_is_as_long_as_any() {
+        let longest = input(STATES_LIMIT, HOUSE_LIMIT, 1).longest;
+        let head = "register,remainders,,".len() + 2 * 10 + 2;
+        let line = 32 + ",".len() + 10 + 2;
+        let closing = "total,".len() + 10 + 2;
+        assert_eq!(longest.len(), head + STATES_LIMIT * line + closing);
+    }
 }

@@ -1,19 +1,26 @@
 //! The programs that are timed beside each other on inputs full of ties: the library, the
 //! reference and quicker plain ones, all exact.
 
-use crate::{calls, heap, leximin, repeat};
+use crate::{calls, heap, leximin, repeat, tournament};
 use reference::Method;
 use std::hint::black_box;
 
 /// A program that fills the seats of a sound problem.
 pub type Fill = fn(Method, u64, &[u64], &mut [u64]);
 
+/// The places of the library and the reference among a method's programs.
+pub const LIBRARY: usize = 0;
+pub const REFERENCE: usize = 1;
+
 /// The programs of a method by name: the library, the reference, and the others.
 pub fn programs(method: Method) -> Vec<(&'static str, Fill)> {
     let mut programs: Vec<(&'static str, Fill)> =
         vec![("library", by_library), ("reference", by_reference)];
     match method {
-        Method::Leximin => programs.push(("heap from the nearest seats", leximin::from_nearest)),
+        Method::Leximin => {
+            programs.push(("heap from the nearest seats", leximin::from_nearest));
+            programs.push(("tournament", tournament::from_nearest));
+        }
         Method::Remainders => programs.push(("parted remainders", heap::parted_remainders)),
         _ => {
             programs.push(("heap from nothing", heap::from_nothing));
@@ -84,7 +91,7 @@ impl Times {
     }
 
     pub fn library(&self) -> f64 {
-        self.0[0]
+        self.0[LIBRARY]
     }
 
     /// The time of the program with a given place in the list of them.
@@ -137,6 +144,8 @@ pub fn commas(number: u64) -> String {
 #[cfg(test)]
 mod tests {
     use super::*;
+    use crate::families::{GIANT, NEARLY_EQUAL, ORDINARY, RANDOM_SIZES, THREE_SIZES};
+    use reference::{HOUSE_LIMIT, STATES_LIMIT, SUM_LIMIT};
 
     #[test]
     fn all_programs_agree_on_small_problems_full_of_ties() {
@@ -154,10 +163,26 @@ mod tests {
 
     #[test]
     fn all_programs_agree_at_the_limits() {
-        let populations = [4_294_967_295 - 1_000_003, 1, 1, 1_000_001];
+        let populations = [SUM_LIMIT - 1_000_003, 1, 1, 1_000_001];
         for method in Method::ALL {
-            for house in [4, 9_998, 9_999] {
+            for house in [4, HOUSE_LIMIT - 1, HOUSE_LIMIT] {
                 check_agreement(method, house, &populations);
+            }
+        }
+    }
+
+    #[test]
+    fn all_programs_agree_at_any_number_of_states() {
+        for states in (1..40).chain([STATES_LIMIT - 1, STATES_LIMIT]) {
+            let seats = if states < 40 { 1..20 } else { 1..3 };
+            for kind in [ORDINARY, NEARLY_EQUAL, THREE_SIZES, RANDOM_SIZES, GIANT] {
+                let populations = kind.populations(states);
+                for seats in seats.clone() {
+                    let house = states as u64 * seats + states as u64 / 3;
+                    for method in Method::ALL {
+                        check_agreement(method, house, &populations);
+                    }
+                }
             }
         }
     }

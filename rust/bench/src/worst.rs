@@ -1,9 +1,9 @@
-//! The worst that is known: inputs full of ties at 250 states, on which the library is timed
-//! beside the fastest exact plain program. Prints Markdown for docs/BENCHMARKS.md.
+//! The worst that is known: inputs full of ties at the limit of states, on which the library is
+//! timed beside the fastest exact plain program. Prints Markdown for docs/BENCHMARKS.md.
 
-use crate::families::{FAMILIES, HOUSES, STATES};
+use crate::families::{houses, FAMILIES, STATES};
 use crate::plain::{commas, micros, programs, Times};
-use crate::{growth, sweep};
+use crate::{growth, yardstick};
 use reference::Method;
 
 /// Repeats of each input, the best of which counts.
@@ -27,17 +27,15 @@ pub struct Results {
     pub timed: Vec<Timed>,
 }
 
-/// Times everything and prints the tables; the populations are ordinary ones, for the lines that
-/// say how fast the machine is.
-pub fn time_it(ordinary: &[u64]) {
+/// Times everything and prints the tables.
+pub fn time_it() {
     let results = Method::ALL.map(time_method);
-    print_machine(ordinary);
+    yardstick::print_it();
     print_worst(&results);
     print_programs(&results);
     print_longest(&results);
     print_families(&results);
     growth::print_it(&results);
-    sweep::print_it(&FAMILIES[results[0].timed[0].family]);
 }
 
 fn time_method(method: Method) -> Results {
@@ -51,7 +49,7 @@ fn time_method(method: Method) -> Results {
     };
     let mut timed = Vec::new();
     for family in 0..FAMILIES.len() {
-        for house in HOUSES {
+        for house in houses(STATES as u64) {
             if !method.seats_every_state() || house >= STATES as u64 {
                 timed.push(Timed {
                     family,
@@ -74,25 +72,15 @@ fn time_method(method: Method) -> Results {
     Results { method, timed }
 }
 
-fn print_machine(ordinary: &[u64]) {
-    let times = Times::of(Method::Hill, 9_999, ordinary, REPEATS);
-    println!("For comparing machines: Hill on 250 ordinary populations and a house of 9,999, µs:");
-    let shown: Vec<String> = programs(Method::Hill)
-        .iter()
-        .enumerate()
-        .map(|(place, (name, _))| format!("{name} {}", micros(times.of_program(place))))
-        .collect();
-    println!("{}.", shown.join(", "));
-}
-
 fn print_worst(results: &[Results]) {
+    let houses = houses(STATES as u64);
     println!("\nLibrary's time over that of the fastest exact plain program at {STATES} states:");
     println!(
         "the worst of {} families with ties and of {} houses from {} to {} (from {STATES} on where",
         FAMILIES.len(),
-        HOUSES.len(),
-        HOUSES[0],
-        commas(HOUSES[HOUSES.len() - 1])
+        houses.len(),
+        houses[0],
+        commas(houses[houses.len() - 1])
     );
     println!("the method gives every state a seat). Times in µs; the last column says on how many");
     println!("of the inputs the library was slower:\n");
@@ -121,9 +109,10 @@ fn cells(
     }: &Timed,
 ) -> String {
     format!(
-        "{:.2} | {} | {house} | {} | {} | {}",
+        "{:.2} | {} | {} | {} | {} | {}",
         times.ratio(),
         FAMILIES[*family].name,
+        commas(*house),
         micros(times.library()),
         micros(times.plain()),
         programs(method)[times.fastest()].0
@@ -146,7 +135,7 @@ fn print_programs(results: &[Results]) {
                 method.name(),
                 ratio(worst),
                 FAMILIES[worst.family].name,
-                worst.house,
+                commas(worst.house),
                 micros(worst.times.library()),
                 micros(worst.times.of_program(place)),
                 timed.iter().filter(|timed| ratio(timed) > 1.0).count(),
@@ -180,7 +169,7 @@ fn print_families(results: &[Results]) {
             .map(|results| {
                 let worst = results.timed.iter().find(|timed| timed.family == family);
                 let worst = worst.expect("an input of the family");
-                format!("{:.2} ({})", worst.times.ratio(), worst.house)
+                format!("{:.2} ({})", worst.times.ratio(), commas(worst.house))
             })
             .collect();
         println!("| {} | {} |", of.name, cells.join(" | "));
