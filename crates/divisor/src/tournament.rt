@@ -2,9 +2,9 @@
 use apportionment::Method;
 use signposts::order::better_of;
 ghost use mathlib.Core.Path.{_≡_};
-ghost use Prim.Native.Nat.{_+_, _*_, _^_, _<_};
+ghost use Prim.Native.Nat.{_*_};
 ghost use lib.ListN.{length};
-ghost use Rattle.claims.specs.inner.TournamentReplay.{Planted, Decidable, beside};
+ghost use Rattle.claims.specs.inner.TournamentReplay.{Planted, Decidable};
 ghost use Rattle.signposts.specs.inner.Order.{ClaimsFit};
 ghost use Rattle.divisor.specs.inner.Moves.{Decided, Replays, Played};
 
@@ -48,18 +48,8 @@ pub fn build(method: Method, up: bool, populations: &[u64], seats: &[u64], tree:
     }
 }
 
-// The place beside k: the two meet at the place half as far.
-fn beside_of(k: usize) -> usize
-    requires { ⌜ k + 1 < 2 ^ 64 ⌝ }
-    ensures { λ r. ⌜ r ≡ beside k ⌝ }
-{
-    if k % 2 == 0 {
-        return k + 1;
-    }
-    k - 1
-}
-
-// Decides anew the places on the way up from the leaf of a state whose seats have changed, with the winner so far in hand.
+// Decides anew the places on the way up from the leaf of a state whose seats have changed, with the winner so far in hand. The two places
+// that meet at k / 2 add up to 4 (k / 2) + 1.
 pub fn replay(
     method: Method,
     up: bool,
@@ -74,7 +64,7 @@ pub fn replay(
     let mut won = place;
     let mut k = populations.len() + place;
     while k > 1 {
-        let other = beside_of(k);
+        let other = 4 * (k / 2) + 1 - k;
         won = better_of(method, up, populations, seats, won, tree[other]);
         k /= 2;
         tree[k] = won;

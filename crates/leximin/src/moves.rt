@@ -92,7 +92,8 @@ fn move_by_tournament(
     build(up, populations, &seats[..], total, house, &mut tree[..]);
     let mut done = 0;
     while done < times {
-        let state = wide(tree[1]);
+        let root = tree[1];
+        let state = wide(root);
         seats[state] = moved_by(up, seats[state]);
         replay(
             up,
@@ -100,7 +101,7 @@ fn move_by_tournament(
             &seats[..],
             total,
             house,
-            state,
+            root,
             &mut tree[..],
         );
         done += 1;

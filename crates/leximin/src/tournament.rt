@@ -144,30 +144,26 @@ pub fn build(up: bool, populations: &[u64], seats: &[u64], total: u64, house: u6
     }
 }
 
-// Decides anew the places on the way up from the leaf of a state that moved.
+// Decides anew the places on the way up from the leaf of a state that moved, with the winner so far in hand. The two places that meet at
+// k / 2 add up to 4 (k / 2) + 1.
 pub fn replay(
     up: bool,
     populations: &[u64],
     seats: &[u64],
     total: u64,
     house: u64,
-    state: usize,
+    state: u16,
     tree: &mut [u16],
 )
     requires { ⌜ Sided up (now populations) total house (now seats) × Moved up (now populations) house (now seats) state (now tree) ⌝ }
     ensures { λ _. ⌜ Champions up (now (populations .entry)) house (now (seats .entry)) (now (tree .exit)) ⌝ }
 {
-    let mut k = (populations.len() + state) / 2;
-    while 0 < k {
-        tree[k] = better_of(
-            up,
-            populations,
-            seats,
-            total,
-            house,
-            tree[2 * k],
-            tree[2 * k + 1],
-        );
-        k = k / 2;
+    let mut won = state;
+    let mut k = populations.len() + wide(state);
+    while k > 1 {
+        let other = 4 * (k / 2) + 1 - k;
+        won = better_of(up, populations, seats, total, house, won, tree[other]);
+        k /= 2;
+        tree[k] = won;
     }
 }

@@ -3,13 +3,11 @@
 -- Assumes nothing.
 use mathlib.Core.Path.{_≡_, refl, sym, ap, _∙_, subst}
 use mathlib.Core.Logic.{_≢_, _⊎_, inl, inr, ⊎-elim}
-use mathlib.Core.Bool.{Bool, cond}
+use mathlib.Core.Bool.{Bool}
 use mathlib.Core.List.{List}
-use Prim.Native.Nat.{ℕ, _+_, _*_, _-_, _/_, _%_, _<_, _≤_}
+use Prim.Native.Nat.{ℕ, _+_, _*_, _-_, _/_, _<_, _≤_}
 use native.Mathlib.Decide.{ℕ-discrete}
 use native.Mathlib.Omega.{arith}
-use borrow.Author.Tests.{eq-eqb, ne-eqb}
-use lib.Dec.{eqb}
 use lib.ListN.{length, getD, set, length-set}
 use lib.Seq.{getD-set-same, getD-set-other}
 use Rattle.claims.specs.inner.Tournament.{better, Except, Winners, better-is-one, better-either-way}
@@ -154,16 +152,13 @@ module _ {before : ℕ → ℕ → Bool} {n : ℕ} {t : List ℕ} where
       (λ e. rw e (subst (OnWay (n + getD t (2 * k + 1) 0)) (halved-too k) (further second)))
       (better-is-one before (getD t (2 * k) 0) (getD t (2 * k + 1) 0))))
 
--- The place beside k: the two meet at the place half as far.
-unfoldable pub beside : ℕ → ℕ
-beside k = cond (eqb (k % 2) 0) (k + 1) (k - 1)
+-- The place beside k: the two meet at the place half as far, and are twice that and the next.
+abbrev pub beside : ℕ → ℕ
+beside k = 4 * (k / 2) + 1 - k
 
 beside-cases : (k : ℕ)
     → ((k ≡ 2 * (k / 2)) × (beside k ≡ 2 * (k / 2) + 1)) ⊎ ((k ≡ 2 * (k / 2) + 1) × (beside k ≡ 2 * (k / 2)))
-unfolding beside
-beside-cases k = ⊎-elim
-    (λ e. inl (e, rw (eq-eqb (k % 2) 0 (omega arith)) (omega arith)))
-    (λ e. inr (e, rw (ne-eqb (k % 2) 0 (λ h. omega arith)) (omega arith))) (half-of k)
+beside-cases k = ⊎-elim (λ e. inl (e, omega arith)) (λ e. inr (e, omega arith)) (half-of k)
 
 better-beside : (before : ℕ → ℕ → Bool) (t : List ℕ) (k : ℕ)
     → better before (getD t k 0) (getD t (beside k) 0) ≡ better before (getD t (2 * (k / 2)) 0) (getD t (2 * (k / 2) + 1) 0)

@@ -1,6 +1,6 @@
 -- What the moves ask, and that it holds again after a move.
 -- Assumes nothing.
-use mathlib.Core.Path.{_≡_, refl, _∙_}
+use mathlib.Core.Path.{_≡_, refl, _∙_, subst}
 use mathlib.Core.Bool.{Bool, true, false, cond}
 use mathlib.Core.List.{List}
 use mathlib.Core.Logic.{⊎-elim}
@@ -161,10 +161,11 @@ module _ {up : Bool} {ps xs₀ xs t : List ℕ} {P H times done : ℕ}
           let first = root-is-first (so-far .winners) (moves-pass up (moving-sided (omega arith))) (m .problem .states .someState) in
           rw (one-more-moved up ps H xs₀ done, ← so-far .seats, moved-by-first up ps H xs, ← first, ← root) (rw move)
 
-      pub root-due : Sided up ps P H (set xs j v) × Moved up ps H (set xs j v) j t
+      pub root-due : Sided up ps P H (set xs j v) × Moved up ps H (set xs j v) (getD t 1 0) t
       root-due = (
         rw root-moved (moved-sided up m (done + 1) (omega arith)),
-        record { inside = root-inside; due = replaying-start (so-far .winners) j (moves-agree up ps H xs j v) },
+        subst (λ (i : ℕ). Moved up ps H (set xs j v) i t) root
+            record { inside = root-inside; due = replaying-start (so-far .winners) j (moves-agree up ps H xs j v) },
       )
 
 -- ---- moves by a scan

@@ -23,53 +23,56 @@ loop-holds c =
     let start = c .before .before .before in
     climbing-none (start .pre .1 .1) (start .pre .1 .0)
 
-beside-of-requires : tie.Need-beside-of-requires Inv-loop μ-loop
-beside-of-requires c κs = omega (arith, c .before .loop .inv .inside, c .before .loop .inv .above .size)
+mul-other : tie.Need-mul-other Inv-loop μ-loop
+mul-other c = omega (arith, c .before .loop .inv .inside, c .before .loop .inv .above .size)
+
+add-other : tie.Need-add-other Inv-loop μ-loop
+add-other c = omega (arith, c .before .loop .inv .inside, c .before .loop .inv .above .size)
+
+sub-other : tie.Need-sub-other Inv-loop μ-loop
+sub-other c = omega arith
 
 mul-better-of : tie.Need-mul-better-of Inv-loop μ-loop
 mul-better-of c =
-    let turn = c .before .before .loop in
-    omega (arith, c .beside-of .ensures, beside-within (turn .inv), turn .inv .above .size)
+    let turn = c .before .loop in
+    omega (arith, beside-within (turn .inv), turn .inv .above .size)
 
 slice-read-better-of : tie.Need-slice-read-better-of Inv-loop μ-loop
 slice-read-better-of c =
-    let found = c .before in
-    let turn = found .before .before .loop in
-    omega (arith, found .beside-of .ensures, beside-within (turn .inv), turn .inv .above .size)
+    let turn = c .before .before .loop in
+    omega (arith, beside-within (turn .inv), turn .inv .above .size)
 
 better-of-requires : tie.Need-better-of-requires Inv-loop μ-loop
 better-of-requires c κs =
-    let found = c .before in
-    let test = found .before in
+    let test = c .before in
     let turn = test .before in
     let start = turn .before .before .before .before in
     record {
       all = start .pre .0;
       one = won-lt (turn .loop .inv);
-      other = rw (found .beside-of .ensures) (beside-lt (turn .loop .inv) (omega (arith, test .loop-test .taken)));
+      other = beside-lt (turn .loop .inv) (omega (arith, test .loop-test .taken));
     }
 
 mul-tree : tie.Need-mul-tree Inv-loop μ-loop
 mul-tree c =
-    let turn = c .before .before .before .before .loop in
+    let turn = c .before .before .before .loop in
     omega (arith, turn .inv .inside, turn .inv .above .size)
 
 slice-write-tree : tie.Need-slice-write-tree Inv-loop μ-loop
 slice-write-tree c =
-    let turn = c .before .before .before .before .loop in
+    let turn = c .before .before .before .loop in
     omega (arith, turn .inv .inside, turn .inv .above .size)
 
 loop-less : tie.Need-loop-less Inv-loop μ-loop
 loop-less c =
-    let test = c .before .before .before in
+    let test = c .before .before in
     omega (arith, test .loop-test .taken)
 
 loop-again : tie.Need-loop-again Inv-loop μ-loop
 loop-again c =
-    let found = c .before .before in
-    let test = found .before in
+    let test = c .before .before in
     let turn = test .before .loop in
-    climbing-more (turn .inv) (omega (arith, test .loop-test .taken)) (rw (← found .beside-of .ensures) (c .better-of .ensures))
+    climbing-more (turn .inv) (omega (arith, test .loop-test .taken)) (c .better-of .ensures)
 
 same-length : tie.Need-same-length Inv-loop μ-loop
 same-length c =
@@ -88,7 +91,9 @@ replay-spec =
     μ-loop
     add-k
     loop-holds
-    beside-of-requires
+    mul-other
+    add-other
+    sub-other
     mul-better-of
     slice-read-better-of
     better-of-requires

@@ -27,8 +27,8 @@ build-requires c κs =
 loop-holds : tie.Need-loop-holds Inv-loop μ-loop
 loop-holds c = (search needs, record { seats = none-moved _ _ _ _; winners = c .before .before .build .ensures })
 
-slice-read-wide : tie.Need-slice-read-wide Inv-loop μ-loop
-slice-read-wide c =
+slice-read-root : tie.Need-slice-read-root Inv-loop μ-loop
+slice-read-root c =
     let at-loop = c .before .before in
     let at-build-arg = at-loop .before .before .before .before .before in
     let start = at-build-arg .before .before .before .before in
@@ -136,7 +136,7 @@ move-by-tournament-spec =
     μ-loop
     build-requires
     loop-holds
-    slice-read-wide
+    slice-read-root
     wide-requires
     mul-moved-by
     slice-read-moved-by
