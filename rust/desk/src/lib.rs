@@ -1,6 +1,7 @@
 //! The proved allotment desk, called from Rust: it reads a register of states, allots a house by
 //! one of seven methods, shows leximin's work seat by seat and writes a listing. Every function
-//! here is a thin safe wrapper over the C interface in [`ffi`].
+//! here is a thin safe wrapper over the C interface in [`ffi`]. The library allocates nothing; a call
+//! takes up to 104 KiB of stack, as `include/desk.h` says for each operation.
 //!
 //! ```
 //! let register = b"register,leximin,3,2\nNorth,100\nSouth,200\ntotal,300\n";

@@ -111,19 +111,23 @@ claims-in-turn p P H a y z w =
     (rising-in-turn (sizeOf p a P H) (sizeOf p (suc a) P H) (sizeOf p (suc (suc a)) P H))
     (middle-smaller p P H a y z w)
 
--- The claim of state i with a seats.
-sizedClaim : {ps : List ℕ} {H : ℕ} → Positive ps H → (i a : ℕ) → 1 ≤ a → SizedClaim
-sizedClaim {ps} {H} s i a h =
+-- The claim of a state with a seats ..
+abbrev pub sizedOf : (p a P H : ℕ) → 0 < P → 0 < a → SizedClaim
+sizedOf p a P H z h =
     record {
-      old = sizeOf (getD ps i 0) a (sum ps) H;
-      new = sizeOf (getD ps i 0) (suc a) (sum ps) H;
-      oldPositive = size-positive (getD ps i 0) a (sum ps) H (people s) h;
-      newPositive = size-positive (getD ps i 0) (suc a) (sum ps) H (people s) (le-step h);
+      old = sizeOf p a P H;
+      new = sizeOf p (suc a) P H;
+      oldPositive = size-positive p a P H z h;
+      newPositive = size-positive p (suc a) P H z (le-step h);
     }
+
+-- .. and of state i.
+abbrev sizedClaim : {ps : List ℕ} {H : ℕ} → Positive ps H → (i a : ℕ) → 1 ≤ a → SizedClaim
+sizedClaim {ps} {H} s i a h = sizedOf (getD ps i 0) a (sum ps) H (people s) h
 
 -- Leximin's claims are in order.
 pub size-order : {ps : List ℕ} {H : ℕ} → Positive ps H → ClaimOrder (length ps) oneEach (sizeTest ps H)
-unfolding sizeTest sizeBefore before sizedClaim
+unfolding sizeTest sizeBefore before
 size-order {ps} {H} s =
     record {
       asym = λ i a j b _ ha _ hb. claims-ordered .asym (sizedClaim s i a ha) (sizedClaim s j b hb);

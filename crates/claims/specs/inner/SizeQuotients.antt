@@ -1,6 +1,6 @@
--- Leximin's claims by quotients. At or above a state's start no claim falls, and rising claims come in the order of p / (a + 1), after those
--- that are level; below it every claim falls, and claims come in the order of p / a. So two products part most claims, with a look at one
--- state's sizes where some may be level, and the present sizes part only those of equal quotients.
+-- Leximin's claims by quotients. At or above a state's start no claim falls, level claims come first, and rising ones in the order of
+-- p / (a + 1); below it every claim falls, and claims come in the order of p / a. So two products part most claims, with a look at one
+-- state's sizes where a claim may be level, and the present sizes part only those of equal quotients.
 -- Assumes nothing.
 use mathlib.Core.Path.{_≡_, refl, sym, _∙_}
 use mathlib.Core.Bool.{Bool, true, false, cond}
@@ -11,10 +11,10 @@ use native.Mathlib.Numerals.{add-one}
 use lib.Dec.{ltb}
 use borrow.Author.Tests.{lt-ltb, le-ltb, ltb-true, ltb-false}
 use Rattle.apportionment.specs.inner.Tests.{either-way}
-use Rattle.apportionment.specs.Quantities.{Fraction, less, distance, sizeOf}
+use Rattle.apportionment.specs.Quantities.{less, distance, sizeOf}
 use Rattle.claims.specs.inner.Fractions.{less-asymmetric, not-less-through, less-of-less-of-not}
 use Rattle.claims.specs.inner.SizeClaims.{sizedClaimBefore, sizeBefore}
-use Rattle.claims.specs.inner.SizeShape.{size-positive}
+use Rattle.claims.specs.inner.SizeOrder.{SizedClaim, sizedOf}
 use Rattle.claims.specs.inner.StartNearest.{nearer, Nearest, nearest-below, nearest-above}
 use Rattle.claims.specs.inner.StartSeats.{claims-met-fall, others-do-not-fall}
 
@@ -111,17 +111,20 @@ fallsBefore P H p a q b =
     cond (ltb (q * a) (p * b)) true (cond (ltb (p * b) (q * a)) false (less (sizeOf p (a + 1) P H) (sizeOf q (b + 1) P H)))
 
 -- Two claims that do not fall and have equal new sizes are in the order of their present sizes, level or not: a level one has kept its own.
-module _ (old new old′ new′ : Fraction) (some : 0 < old .under) (some′ : 0 < old′ .under) (newSome : 0 < new .under) (newSome′ : 0 < new′ .under)
-    (stays : less new old ≡ false) (stays′ : less new′ old′ ≡ false) (equal : less new new′ ≡ false) (equal′ : less new′ new ≡ false) where
-  by-present : (r r′ : Bool) → less old new ≡ r → less old′ new′ ≡ r′ → cond r (cond r′ (less old′ old) false) r′ ≡ less old′ old
-  by-present true true e e′ = refl
-  by-present true false e e′ =
-      sym
-      (less-asymmetric old old′ (less-of-less-of-not old new′ old′ some′ (less-of-less-of-not old new new′ newSome′ e equal′) e′))
-  by-present false true e e′ =
-      sym (less-of-less-of-not old′ new old some (less-of-less-of-not old′ new′ new newSome e′ equal) e)
-  by-present false false e e′ =
-      sym (not-less-through old′ new old newSome (not-less-through old′ new′ new newSome′ e′ equal′) stays)
+module _ (x y : SizedClaim) (stays : less (x .new) (x .old) ≡ false) (equal : less (x .new) (y .new) ≡ false)
+    (too : less (y .new) (x .new) ≡ false) where
+  by-present : (r r′ : Bool) → less (x .old) (x .new) ≡ r → less (y .old) (y .new) ≡ r′
+      → cond r (cond r′ (less (y .old) (x .old)) false) r′ ≡ less (y .old) (x .old)
+  by-present true true e f = refl
+  by-present true false e f =
+      let below : less (x .old) (y .new) ≡ true = less-of-less-of-not (x .old) (x .new) (y .new) (y .newPositive) e too in
+      sym (less-asymmetric (x .old) (y .old) (less-of-less-of-not (x .old) (y .new) (y .old) (y .oldPositive) below f))
+  by-present false true e f =
+      let below : less (y .old) (x .new) ≡ true = less-of-less-of-not (y .old) (y .new) (x .new) (x .newPositive) f equal in
+      sym (less-of-less-of-not (y .old) (x .new) (x .old) (x .oldPositive) below e)
+  by-present false false e f =
+      let above : less (y .old) (x .new) ≡ false = not-less-through (y .old) (y .new) (x .new) (y .newPositive) f too in
+      sym (not-less-through (y .old) (x .new) (x .old) (x .newPositive) above stays)
 
 -- The classes first and then the quotients, or the other way round: the same order, if at equal quotients the classes do not matter.
 quotients-first : (l g r r′ t : Bool) → (l ≡ false → g ≡ false → cond r (cond r′ t false) r′ ≡ t)
@@ -143,10 +146,7 @@ module _ {P H : ℕ} (z : 0 < P) (w : 0 < H) (p a q b : ℕ) where
       simp (c .stays, d .stays, one, other, add-one)
       (quotients-first (ltb (q * suc a) (p * suc b)) (ltb (p * suc b) (q * suc a)) (less (sizeOf p a P H) (sizeOf p (suc a) P H))
       (less (sizeOf q b P H) (sizeOf q (suc b) P H)) (less (sizeOf q b P H) (sizeOf p a P H))
-      (λ e f.
-      by-present (sizeOf p a P H) (sizeOf p (suc a) P H) (sizeOf q b P H) (sizeOf q (suc b) P H)
-      (size-positive p a P H z (c .some)) (size-positive q b P H z (d .some)) (size-positive p (suc a) P H z (omega arith))
-      (size-positive q (suc b) P H z (omega arith)) (c .stays) (d .stays) (one ∙ e) (other ∙ f) _ _ refl refl))
+      (λ e f. by-present (sizedOf p a P H z (c .some)) (sizedOf q b P H z (d .some)) (c .stays) (one ∙ e) (other ∙ f) _ _ refl refl))
 
   pub falls-by-quotient : Falls p P H a → Falls q P H b → sizeBefore P H p a q b ≡ fallsBefore P H p a q b
   unfolding sizeBefore sizedClaimBefore fallsBefore
