@@ -24,7 +24,7 @@ extern "C" {
 /* Room for any listing: the longest head, a line for each state at its longest, and the longest
    line of totals. A buffer of so many bytes is never refused 31; the library is proved to that
    number (crates/listing/specs/inner/Room.antt, listingRoom). */
-#define DESK_LISTING_ROOM (31 + DESK_STATES_LIMIT * 66 + 23)
+#define DESK_LISTING_ROOM (31 + DESK_STATES_LIMIT * 67 + 23)
 
 /* The stack that each operation takes at most, in bytes, what is handed over by value included: a
    thread with 256 KiB is safe for any of them. Measured on x86-64 Linux by painting the stack, at the
@@ -98,15 +98,19 @@ desk_placed desk_open(const uint64_t *populations, size_t n, uint64_t house);
    20 at the house, each with the placing as it was. */
 desk_placed desk_step(desk_placing placing);
 
-/* A shown departure in hundredths of a per cent, and its mark. */
+/* Departures are shown in thousandths of a per cent, of which so many make one whole. */
+#define DESK_SHOWN_SCALE 100000
+
+/* A shown departure, and its mark: -13765 shown is 13.765 per cent below the average. The mark is
+   that of the exact departure. */
 typedef struct {
     uint64_t refusal;
-    int64_t hundredths;
+    int64_t shown;
     uint64_t mark;
 } desk_shown;
 
 /* The departure of a state with a population and seats from the average total / house: refusal
-   30 outside the limits. Refused or without seats the hundredths are 0 and the mark is none. */
+   30 outside the limits. Refused or without seats, `shown` is 0 and the mark is none. */
 desk_shown desk_departure(uint64_t population, uint64_t seats, uint64_t total, uint64_t house);
 
 /* A listing written, and its length, 0 on a refusal. */

@@ -1,4 +1,4 @@
--- The starred examples of document 01 as one list, and one fact: each holds under the definitions themselves.
+-- The starred examples of documents 01 and 02 as one list, and one fact: each holds under the definitions themselves.
 -- Assumes nothing.
 use mathlib.Core.Path.{_≡_, refl}
 use mathlib.Core.Bool.{Bool, true, _&&_}
@@ -6,15 +6,15 @@ use mathlib.Core.List.{List, [], _∷_}
 use Prim.Native.Nat.{ℕ}
 use Rattle.apportionment.specs.Lists.{sum, sameList, firstPlace, countBelow, listOf}
 use Rattle.apportionment.specs.Text.{bytesOf, decimal, decimalWith}
-use Rattle.apportionment.specs.Quantities.{less, atMost, distance, sizeOf, isBelow, nearestWhole, hundredthsOf, shownOf}
-use Rattle.apportionment.specs.Quantities.{hundredthsText, shownText, markOf, markText}
+use Rattle.apportionment.specs.Quantities.{less, atMost, distance, sizeOf, isBelow, nearestWhole, shownSize, shownOf}
+use Rattle.apportionment.specs.Quantities.{shownSizeText, shownText, markOf, markText}
 use Rattle.apportionment.specs.Leximin.{sizesOf, insert, largestFirst, listLess, moreAtFirst, sizeList, chosenBefore, withFirst}
 use Rattle.apportionment.specs.Leximin.{allotments, firstOf, firstOfAll, leximinFor}
 use Rattle.apportionment.specs.Divisor.{signpost, weightOf, claimOf, claimBefore, firstClaim, oneMore, claimsMet, divisorSeats}
 use Rattle.apportionment.specs.Remainders.{wholePart, remainder, servedBefore, seatsLeft, rank, remainderSeatsAt, remainderSeats}
 use Rattle.apportionment.specs.Allotment.{seatsOf}
 use Rattle.apportionment.specs.declared.Mark.{Mark}
-use Rattle.apportionment.specs.declared.Mark.the-variants.{In, Over}
+use Rattle.apportionment.specs.declared.Mark.the-variants.{In, High, Over}
 use Rattle.apportionment.specs.declared.Method.{Method}
 use Rattle.apportionment.specs.declared.Method.the-variants.{Leximin, Adams, Webster, Remainders}
 
@@ -47,14 +47,15 @@ starred =
     ∷ allots Webster (1 ∷ 99 ∷ []) 2 (0 ∷ 2 ∷ [])
     ∷ allots Adams (1 ∷ 99 ∷ []) 2 (1 ∷ 1 ∷ [])
     ∷ allots Remainders (1 ∷ 3 ∷ []) 2 (0 ∷ 2 ∷ [])
-    ∷ shows 11 1 20 2 (bytesOf "10.00") In
-    ∷ shows 115004 1 200000 2 (bytesOf "15.00") Over
+    ∷ shows 11 1 20 2 (bytesOf "10.000") In
+    ∷ shows 1101 1 2000 2 (bytesOf "10.100") High
+    ∷ shows 115004 1 200000 2 (bytesOf "15.004") Over
     ∷ []
 
 -- Every starred example holds: antt goes through the allotments themselves.
 pub starred-hold : allHold starred ≡ true
 unfolding starred allHold holds seatsOf sameList sum decimal decimalWith less atMost distance sizeOf isBelow nearestWhole
-    hundredthsOf shownOf hundredthsText shownText markOf markText sizesOf insert largestFirst listLess moreAtFirst sizeList
+    shownSize shownOf shownSizeText shownText markOf markText sizesOf insert largestFirst listLess moreAtFirst sizeList
     chosenBefore withFirst allotments firstOf firstOfAll leximinFor signpost weightOf claimOf claimBefore firstClaim firstPlace
     oneMore claimsMet divisorSeats countBelow listOf wholePart remainder servedBefore seatsLeft rank remainderSeatsAt
     remainderSeats

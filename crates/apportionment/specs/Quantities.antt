@@ -43,24 +43,28 @@ isBelow p a P H = ltb (p * H) (a * P)
 unfoldable pub nearestWhole : (over under : ℕ) → ℕ
 nearestWhole over under = (2 * over + under) / (2 * under)
 
--- A size in hundredths of a per cent, rounded to the nearest; halves, away from zero.
-unfoldable pub hundredthsOf : Fraction → ℕ
-hundredthsOf s = nearestWhole (10000 * s .over) (s .under)
+-- Departures are shown in thousandths of a per cent, of which so many make one whole.
+abbrev pub shownScale : ℕ
+shownScale = 100000
 
--- The shown departure in hundredths of a per cent. A departure that rounds to zero has no sign, as zero has none.
+-- A size as it is shown: the nearest number of thousandths; halves, away from zero.
+unfoldable pub shownSize : Fraction → ℕ
+shownSize s = nearestWhole (shownScale * s .over) (s .under)
+
+-- The shown departure. One that rounds to zero has no sign, as zero has none.
 unfoldable pub shownOf : (p a P H : ℕ) → ℤ
 shownOf p a P H =
-    let size = hundredthsOf (sizeOf p a P H) in
+    let size = shownSize (sizeOf p a P H) in
     cond (isBelow p a P H) (negℤ (pos size)) (pos size)
 
--- Hundredths written with a point and two digits after it.
-unfoldable pub hundredthsText : ℕ → List ℕ
-hundredthsText h = ((decimal (h / 100) ++ bytesOf ".") ++ digit (h / 10 % 10)) ++ digit (h % 10)
+-- The bytes of a shown size: per cent, with a point and three digits after it.
+unfoldable pub shownSizeText : ℕ → List ℕ
+shownSizeText s = decimal (s / 1000) ++ bytesOf "." ++ digit (s / 100 % 10) ++ digit (s / 10 % 10) ++ digit (s % 10)
 
 -- The bytes of a shown departure: a minus sign only below zero, no plus sign.
 unfoldable pub shownText : ℤ → List ℕ
-shownText (pos h) = hundredthsText h
-shownText (negsuc h) = bytesOf "-" ++ hundredthsText (h + 1)
+shownText (pos s) = shownSizeText s
+shownText (negsuc s) = bytesOf "-" ++ shownSizeText (s + 1)
 
 -- The bytes of a state's departure: the shown one, or `none` with 0 seats.
 unfoldable pub departureText : (p a P H : ℕ) → List ℕ

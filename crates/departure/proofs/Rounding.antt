@@ -1,5 +1,5 @@
 -- Rounding in two stages, the whole part and then the scaled remainder, gives the nearest number. The proof of `nearest`
--- cites these laws at the scale of hundredths of a per cent.
+-- cites these laws at the scale in which departures are shown.
 -- Assumes nothing.
 use mathlib.Core.Path.{_≡_, sym, _∙_, ap}
 use Prim.Native.Nat.{ℕ, _+_, _-_, _*_, _/_, _%_, _^_, _<_, _≤_}
@@ -7,7 +7,7 @@ use native.Mathlib.Nat.{add-le-add, add-mul, mul-add, mul-assoc, mul-comm, mul-l
 use native.Mathlib.Nat.{div-le-of-le-mul, le-of-lt, mul-le-mul-right}
 use native.Mathlib.Omega.{arith}
 use Rattle.apportionment.specs.Limits.{houseLimit}
-use Rattle.apportionment.specs.Quantities.{Fraction, hundredthsOf, nearestWhole}
+use Rattle.apportionment.specs.Quantities.{Fraction, shownSize, nearestWhole}
 use Rattle.apportionment.specs.inner.Quantities.{at-most-wholes}
 use Rattle.departure.specs.inner.Exact.{Moderate}
 
@@ -64,6 +64,6 @@ module _ (scale over under : ℕ) (positive : 0 < under) where
       (mul-le-mul-right scale (div-le-of-le-mul under (omega (arith, mul-comm k under))))
       (div-le-of-le-mul under (mul-le-mul-right scale (le-of-lt (mod-lt over positive))))
 
--- The hundredths of a moderate size are far below 2^63.
-pub moderate-fits : (s : Fraction) → Moderate s → hundredthsOf s < 2 ^ 63
+-- A moderate size is shown by a number far below 2^63.
+pub moderate-fits : (s : Fraction) → Moderate s → shownSize s < 2 ^ 63
 moderate-fits s moderate = omega (arith, at-most-wholes houseLimit s (moderate .positive) (moderate .low))

@@ -32,7 +32,7 @@ departureChecks p a P H =
 unfoldable pub departureRefusal : (p a P H : ℕ) → ℕ
 departureRefusal p a P H = firstRefusal (departureChecks p a P H)
 
--- The shown departure in hundredths of a per cent: none where refused or without a seat.
+-- The shown departure: none where refused or without a seat.
 unfoldable pub departureShown : (p a P H : ℕ) → Option ℤ
 departureShown p a P H =
     cond (eqb (departureRefusal p a P H) accepted) (cond (eqb a 0) none (some (shownOf p a P H))) none
@@ -48,19 +48,19 @@ departureMark p a P H =
 unfoldable pub numberOf : Answer → ℕ
 numberOf Refused = departureOutOfLimits
 numberOf NoSeats = accepted
-numberOf (Shown hundredths mark) = accepted
+numberOf (Shown shown mark) = accepted
 
--- The shown departure in hundredths of a per cent, where there is one.
+-- The shown departure, where there is one.
 unfoldable pub shownIn : Answer → Option ℤ
 shownIn Refused = none
 shownIn NoSeats = none
-shownIn (Shown hundredths mark) = some hundredths
+shownIn (Shown shown mark) = some shown
 
 -- The mark, where there is one.
 unfoldable pub markIn : Answer → Option Mark
 markIn Refused = none
 markIn NoSeats = some None
-markIn (Shown hundredths mark) = some mark
+markIn (Shown shown mark) = some mark
 
 -- ---- what the operation promises
 

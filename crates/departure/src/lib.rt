@@ -9,7 +9,7 @@ use apportionment::refusals::DEPARTURE_OUT_OF_LIMITS;
 ghost use mathlib.Core.Path.{_≡_};
 ghost use Prim.Native.Nat.{_^_, _<_};
 ghost use lib.IntN.{natAbs, pos, _-ℤ_};
-ghost use Rattle.apportionment.specs.Quantities.{atMost, hundredthsOf, markOf};
+ghost use Rattle.apportionment.specs.Quantities.{atMost, shownSize, markOf};
 ghost use Rattle.departure.specs.inner.Exact.{Moderate, exactOf, shown, signed, size};
 ghost use Rattle.departure.specs.Answer.{AnswerIs, departureRefusal};
 ghost use Rattle.departure.specs.inner.Answer.{InLimits};
@@ -26,12 +26,12 @@ pub enum Answer {
     Refused,
     // A state with 0 seats: it has no departure, and its mark is `none`.
     NoSeats,
-    // The shown departure in hundredths of a per cent, and the mark of the exact one.
-    Shown { hundredths: i64, mark: Mark },
+    // The shown departure, and the mark of the exact one.
+    Shown { shown: i64, mark: Mark },
 }
 
-// How many hundredths of a per cent are in one whole.
-const SCALE: u64 = 10_000;
+// Departures are shown in thousandths of a per cent, of which so many make one whole.
+const SHOWN_SCALE: u64 = 100_000;
 
 impl Departure {
     pub const TEN_PERCENT: Departure = Departure {
@@ -80,8 +80,8 @@ impl Departure {
         Mark::Over
     }
 
-    // In hundredths of a per cent, the nearest; halves away from zero.
-    pub fn hundredths(self) -> i64
+    // As it is shown: the nearest number of thousandths of a per cent; halves away from zero.
+    pub fn shown(self) -> i64
         requires { ⌜ Moderate (size self) ⌝ }
         ensures { λ r. ⌜ r ≡ shown self ⌝ }
     {
@@ -104,7 +104,7 @@ pub fn departure_of(population: u64, seats: u64, total: u64, house: u64) -> Answ
     }
     let exact = Departure::of(population, seats, total, house);
     Answer::Shown {
-        hundredths: exact.hundredths(),
+        shown: exact.shown(),
         mark: exact.mark(),
     }
 }
@@ -128,15 +128,16 @@ fn departure_refusal(population: u64, seats: u64, total: u64, house: u64) -> u64
     ACCEPTED
 }
 
-// The nearest number of hundredths of a per cent, halves up. The division goes in two stages, the whole part first, so that
-// only a remainder is scaled. Keep it unsigned: for thousandths and a house of 30,000 the scaled remainder stays below 2^64,
-// but not below 2^63.
+// The nearest number of thousandths of a per cent, halves up. The division goes in two stages, the whole part first, so that only a
+// remainder is scaled. Keep it unsigned: at the limits the scaled remainder stays below 2^64, but not below 2^63.
 fn nearest(over: u64, under: u64) -> u64
     requires { ⌜ Moderate (record { over = over; under = under }) ⌝ }
-    ensures { λ r. ⌜ r ≡ hundredthsOf (record { over = over; under = under }) ⌝ }
+    ensures { λ r. ⌜ r ≡ shownSize (record { over = over; under = under }) ⌝ }
 {
-    let scaled = over % under * SCALE;
-    let down = over / under * SCALE + scaled / under;
+    let whole = over / under;
+    let part = over % under;
+    let scaled = part * SHOWN_SCALE;
+    let down = whole * SHOWN_SCALE + scaled / under;
     let rest = scaled % under;
     if rest < under - rest { down } else { down + 1 }
 }

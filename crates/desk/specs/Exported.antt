@@ -56,10 +56,10 @@ innerPlacing p =
 unfoldable pub exportedPlaced : Placed → DeskPlaced
 exportedPlaced p = record { refusal = p .refusal; placing = exportedPlacing (p .placing) }
 
--- A departure from its refusal number, its shown departure and its mark: 0 hundredths and the mark `none` where there is none.
+-- A departure from its refusal number, its shown departure and its mark; where there is none, 0 stands for it, and `none` for the mark.
 unfoldable pub exportedShown : (refusal : ℕ) → Option ℤ → Option Mark → DeskShown
 exportedShown refusal shown mark =
-    record { refusal = refusal; hundredths = Option·getD shown (pos 0); mark = markNumber (Option·getD mark None) }
+    record { refusal = refusal; shown = Option·getD shown (pos 0); mark = markNumber (Option·getD mark None) }
 
 unfoldable pub exportedDeparture : (p a P H : ℕ) → DeskShown
 exportedDeparture p a P H =

@@ -68,7 +68,7 @@ pub struct DeskPlaced {
 #[repr(C)]
 pub struct DeskShown {
     pub refusal: u64,
-    pub hundredths: i64,
+    pub shown: i64,
     pub mark: u64,
 }
 
@@ -157,13 +157,13 @@ fn exported_placed(placed: Placed) -> DeskPlaced
     }
 }
 
-fn exported_shown(hundredths: i64, mark: Mark) -> DeskShown
-    ensures { λ r. ⌜ r ≡ exportedShown accepted (some hundredths) (some mark) ⌝ }
+fn exported_shown(shown: i64, mark: Mark) -> DeskShown
+    ensures { λ r. ⌜ r ≡ exportedShown accepted (some shown) (some mark) ⌝ }
 {
     let mark = mark_number(mark);
     DeskShown {
         refusal: refusals::ACCEPTED,
-        hundredths,
+        shown,
         mark,
     }
 }
@@ -174,15 +174,15 @@ fn exported_answer(answer: Answer) -> DeskShown
     match answer {
         Answer::Refused => DeskShown {
             refusal: refusals::DEPARTURE_OUT_OF_LIMITS,
-            hundredths: 0,
+            shown: 0,
             mark: MARK_NONE,
         },
         Answer::NoSeats => DeskShown {
             refusal: refusals::ACCEPTED,
-            hundredths: 0,
+            shown: 0,
             mark: MARK_NONE,
         },
-        Answer::Shown { hundredths, mark } => exported_shown(hundredths, mark),
+        Answer::Shown { shown, mark } => exported_shown(shown, mark),
     }
 }
 
@@ -246,7 +246,7 @@ pub extern "C" fn desk_step(placing: DeskPlacing) -> DeskPlaced
     exported_placed(inner.step())
 }
 
-// The departure of a state: refusal 30 outside the limits. Refused or without seats the hundredths are 0 and the mark is none.
+// The departure of a state: refusal 30 outside the limits. Refused or without seats, `shown` is 0 and the mark none.
 #[no_mangle]
 pub extern "C" fn desk_departure(population: u64, seats: u64, total: u64, house: u64) -> DeskShown
     ensures { λ r. ⌜ r ≡ exportedDeparture population seats total house ⌝ }

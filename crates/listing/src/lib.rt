@@ -17,7 +17,7 @@ ghost use Rattle.listing.specs.inner.Listed.{GoodReading, HandedOver};
 // The room of the longest head, line of a state and line of totals; specs/inner/Room.antt says what each is made of.
 const HEAD_ROOM: usize = 31;
 
-const LINE_ROOM: usize = 66;
+const LINE_ROOM: usize = 67;
 
 const TOTAL_ROOM: usize = 23;
 

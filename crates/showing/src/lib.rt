@@ -16,9 +16,9 @@ ghost use Rattle.showing.specs.Work.{firstDifference, movedAt, statesTex
 ghost use Rattle.showing.specs.inner.Showable.{Showable, ShowableStep};
 
 // The room of the longest line of a state weighed, and of a step; specs/inner/Room.antt says what each is made of.
-const WEIGHED_ROOM: usize = 79;
+const WEIGHED_ROOM: usize = 81;
 
-const STEP_ROOM: usize = 91;
+const STEP_ROOM: usize = 93;
 
 // Room for every block: each state weighed, and a step.
 pub const PAGE_ROOM: usize = STATE_LIMIT * WEIGHED_ROOM + STEP_ROOM;

@@ -143,7 +143,7 @@ fn tell_departure(expected: &[u8], answer: Answer) -> usize {
     match answer {
         Answer::Refused => tell(expected, 0, b"refused,30"),
         Answer::NoSeats => tell(expected, 0, b"none,none"),
-        Answer::Shown { hundredths, mark } => tell_shown(expected, hundredths, mark),
+        Answer::Shown { shown, mark } => tell_shown(expected, shown, mark),
     }
 }
 

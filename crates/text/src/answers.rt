@@ -17,10 +17,7 @@ pub fn put_departure(out: &mut [u8], at: usize, answer: Answer) -> usize
     match answer {
         Answer::Refused => put_bytes(out, at, b"none"),
         Answer::NoSeats => put_bytes(out, at, b"none"),
-        Answer::Shown {
-            hundredths,
-            mark: _,
-        } => put_shown(out, at, hundredths),
+        Answer::Shown { shown, mark: _ } => put_shown(out, at, shown),
     }
 }
 
@@ -31,9 +28,6 @@ pub fn put_mark(out: &mut [u8], at: usize, answer: Answer) -> usize
     match answer {
         Answer::Refused => put_bytes(out, at, b"none"),
         Answer::NoSeats => crate::put_mark(out, at, Mark::None),
-        Answer::Shown {
-            hundredths: _,
-            mark,
-        } => crate::put_mark(out, at, mark),
+        Answer::Shown { shown: _, mark } => crate::put_mark(out, at, mark),
     }
 }

@@ -13,7 +13,7 @@ ghost use lib.Dec.{leb};
 ghost use lib.ListN.{length};
 ghost use Rattle.apportionment.specs.Text.{decimal, digit};
 ghost use Rattle.apportionment.specs.Methods.{methodText};
-ghost use Rattle.apportionment.specs.Quantities.{hundredthsText, shownText, markText};
+ghost use Rattle.apportionment.specs.Quantities.{shownSizeText, shownText, markText};
 ghost use Rattle.text.specs.Writing.{Wrote, laid};
 ghost use Rattle.text.specs.inner.Writing.{copiedOut};
 ghost use Rattle.text.specs.Shared.{numbersText, totalLine, refusalLine};
@@ -77,26 +77,27 @@ pub fn put_decimal(out: &mut [u8], at: usize, n: u64) -> usize
     put_digit(out, tens, n % 10)
 }
 
-// Hundredths, with a point and two digits after it.
-pub fn put_hundredths(out: &mut [u8], at: usize, h: u64) -> usize
-    ensures { λ r. ⌜ Wrote (now (out .entry)) at (hundredthsText h) (now (out .exit)) r ⌝ }
+// A shown size: per cent, with a point and three digits after it.
+pub fn put_shown_size(out: &mut [u8], at: usize, size: u64) -> usize
+    ensures { λ r. ⌜ Wrote (now (out .entry)) at (shownSizeText size) (now (out .exit)) r ⌝ }
 {
-    let whole = put_decimal(out, at, h / 100);
+    let whole = put_decimal(out, at, size / 1000);
     let point = put_byte(out, whole, b'.');
-    let tenth = put_digit(out, point, h / 10 % 10);
-    put_digit(out, tenth, h % 10)
+    let first = put_digit(out, point, size / 100 % 10);
+    let second = put_digit(out, first, size / 10 % 10);
+    put_digit(out, second, size % 10)
 }
 
-// A shown departure, in hundredths of a per cent: a minus sign below zero, no plus sign.
-pub fn put_shown(out: &mut [u8], at: usize, h: i64) -> usize
-    ensures { λ r. ⌜ Wrote (now (out .entry)) at (shownText h) (now (out .exit)) r ⌝ }
+// A shown departure: a minus sign below zero, no plus sign.
+pub fn put_shown(out: &mut [u8], at: usize, shown: i64) -> usize
+    ensures { λ r. ⌜ Wrote (now (out .entry)) at (shownText shown) (now (out .exit)) r ⌝ }
 {
-    let size = wide::magnitude(h);
-    if h < 0 {
+    let size = wide::magnitude(shown);
+    if shown < 0 {
         let sign = put_byte(out, at, b'-');
-        return put_hundredths(out, sign, size);
+        return put_shown_size(out, sign, size);
     }
-    put_hundredths(out, at, size)
+    put_shown_size(out, at, size)
 }
 
 // The word of a mark.

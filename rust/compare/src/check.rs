@@ -412,16 +412,16 @@ fn check_departure(
     house: u64,
     counts: &mut Counts,
 ) -> Result<(), String> {
-    let (refusal, hundredths, mark) = match reference::departure(population, seats, total, house) {
-        Ok(Some((hundredths, Mark::In))) => (0, hundredths, 0),
-        Ok(Some((hundredths, Mark::High))) => (0, hundredths, 1),
-        Ok(Some((hundredths, Mark::Over))) => (0, hundredths, 2),
+    let (refusal, shown, mark) = match reference::departure(population, seats, total, house) {
+        Ok(Some((shown, Mark::In))) => (0, shown, 0),
+        Ok(Some((shown, Mark::High))) => (0, shown, 1),
+        Ok(Some((shown, Mark::Over))) => (0, shown, 2),
         Ok(None) => (0, 0, 3),
         Err(refusal) => (refusal.number, 0, 3),
     };
     let expected = ffi::Shown {
         refusal,
-        hundredths,
+        shown,
         mark,
     };
     // SAFETY: numbers alone are handed over.

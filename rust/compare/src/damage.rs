@@ -70,6 +70,8 @@ pub fn sound(random: &mut Random) -> Draft {
     let method = random.pick(&METHODS);
     if method == "remainders" && random.once_in(2) {
         (populations, house) = problem::equal_remainders(random);
+    } else if random.once_in(8) {
+        (populations, house) = problem::nearly_whole(random);
     }
     let mut draft = Draft::plain(
         method,

@@ -1,16 +1,19 @@
-//! Inputs that every run begins with: the document's examples, the limits, the longest registers,
-//! and one register cut, changed, filled and thinned at every byte.
+//! Inputs that every run begins with: the document's examples, departures that are hard to round,
+//! the limits, the longest registers, and one register cut, changed, filled and thinned at every
+//! byte.
 
 use crate::damage::{self, Draft};
 use crate::random::Random;
-use crate::{seeded, Case};
-use reference::{Placing, BYTES_LIMIT, HOUSE_LIMIT, STATES_LIMIT, SUM_LIMIT};
+use crate::{seeded, Case, MOST_STATES};
+use reference::{Method, Placing, BYTES_LIMIT, HOUSE_LIMIT, STATES_LIMIT, SUM_LIMIT};
 
 /// The fixed inputs; the seed settles only which room and place a register is tried with, and
 /// which sound register is damaged beside the document's own.
 pub fn fixed(seed: u64) -> Vec<Case> {
     let random = &mut Random::new(seed, u64::MAX);
     let mut cases = examples();
+    cases.extend(departures());
+    cases.extend(listed_departures());
     cases.extend(limits(random));
     cases.extend(longest_walk());
     cases.extend(longest_registers(random));
@@ -49,8 +52,8 @@ fn at_every_byte(register: &[u8]) -> Vec<Vec<u8>> {
     all
 }
 
-/// The allotments, placings and departures that the document names, some where moves are parted by
-/// register order alone, and some where equal remainders are parted by population.
+/// The allotments and placings that the document names, some where moves are parted by register
+/// order alone, and some where equal remainders are parted by population.
 fn examples() -> Vec<Case> {
     let problems: [(u64, &[u64]); 23] = [
         (20, &[26, 27, 28, 29, 91]),
@@ -92,17 +95,88 @@ fn examples() -> Vec<Case> {
             populations: populations.to_vec(),
         });
     }
-    for (population, total) in [(11, 20), (1_101, 2_000), (115_004, 200_000), (5, 4)] {
+    cases
+}
+
+/// The population of a state and the total with which, at one seat of two, its departure is an
+/// example of the document's, a true half of a thousandth of a per cent, less than one, or just
+/// past the limit of a mark.
+const OF_TWO_SEATS: [(u64, u64); 14] = [
+    (11, 20),
+    (1_101, 2_000),
+    (115_004, 200_000),
+    (110_001, 200_000),
+    (200_001, 400_000),
+    (199_999, 400_000),
+    (200_003, 400_000),
+    (199_997, 400_000),
+    (250_001, 500_000),
+    (249_999, 500_000),
+    (1_100_001, 2_000_000),
+    (899_999, 2_000_000),
+    (1_150_001, 2_000_000),
+    (849_999, 2_000_000),
+];
+
+/// These departures at other seats too, one of a population above its total, and true halves and
+/// their neighbours at the limits.
+fn departures() -> Vec<Case> {
+    let mut cases = Vec::new();
+    let mut push = |population, seats, total, house| {
+        cases.push(Case::Departure {
+            population,
+            seats,
+            total,
+            house,
+        })
+    };
+    for (population, total) in OF_TWO_SEATS.into_iter().chain([(5, 4)]) {
         for seats in 0..=3 {
-            cases.push(Case::Departure {
-                population,
-                seats,
-                total,
-                house: 2,
+            push(population, seats, total, 2);
+        }
+    }
+    for (population, seats) in [
+        (133_334, 1),
+        (3_999_999_998, 1),
+        (20_000, HOUSE_LIMIT),
+        (60_000, HOUSE_LIMIT),
+    ] {
+        for population in population - 1..=population + 1 {
+            push(population, seats, 4_000_000_000, HOUSE_LIMIT);
+        }
+    }
+    cases
+}
+
+/// Registers whose listings show such departures, in just as much room as these need: two states
+/// with a seat each; at the limits, a true half and a state shown as zero from below; and a giant
+/// among states of one voter, which departs by some 79,900 per cent where every state has a seat.
+fn listed_departures() -> Vec<Case> {
+    let two = |(population, total)| (2, vec![population, total - population]);
+    let mut problems: Vec<(u64, Vec<u64>)> = OF_TWO_SEATS.map(two).to_vec();
+    problems.push((HOUSE_LIMIT, vec![133_334, 3_999_866_666]));
+    problems.push((MOST_STATES, giant()));
+    let mut cases = Vec::new();
+    for (house, populations) in problems {
+        let names = damage::names(damage::LONG_NAMES, populations.len());
+        for method in Method::ALL {
+            let bytes = Draft::plain(method.name(), house, &names, &populations).bytes();
+            let listing = reference::listing(&bytes).expect("a sound register");
+            cases.push(Case::Register {
+                room: listing.len(),
+                place: 0,
+                bytes,
             });
         }
     }
     cases
+}
+
+/// As many states as can be, one of which has all voters but one for each other.
+fn giant() -> Vec<u64> {
+    let mut populations = vec![1; STATES_LIMIT];
+    populations[STATES_LIMIT / 2] = SUM_LIMIT - (MOST_STATES - 1);
+    populations
 }
 
 /// States, house, sum and bytes at their limits and just past them.
@@ -195,19 +269,16 @@ fn limits(random: &mut Random) -> Vec<Case> {
 /// One state has all voters but one for each other, and gives up a seat at every step: the longest
 /// walk we know, of as many steps as there are other states.
 fn longest_walk() -> Vec<Case> {
-    let states = STATES_LIMIT as u64;
-    let mut populations = vec![1; STATES_LIMIT];
-    populations[STATES_LIMIT / 2] = SUM_LIMIT - (states - 1);
     vec![
         Case::Allot {
             method: 0,
-            house: states,
+            house: MOST_STATES,
             room: STATES_LIMIT,
-            populations: populations.clone(),
+            populations: giant(),
         },
         Case::Walk {
-            house: states,
-            populations,
+            house: MOST_STATES,
+            populations: giant(),
         },
     ]
 }

@@ -1,9 +1,9 @@
 //! Sound problems for allotting: populations and a house, with a liking for equal departures,
-//! equal quotients, equal remainders and the limits.
+//! equal quotients, equal remainders, departures next to zero and the limits.
 
 use crate::random::Random;
 use crate::MOST_STATES;
-use reference::{HOUSE_LIMIT, SUM_LIMIT};
+use reference::{HOUSE_LIMIT, SHOWN_SCALE, SUM_LIMIT};
 
 /// A number of states: mostly few, at times many or the limit.
 pub fn states(random: &mut Random) -> u64 {
@@ -134,6 +134,36 @@ fn equally_near(random: &mut Random) -> (Vec<u64>, u64) {
     (populations, house.max(n))
 }
 
+/// The halves of a thousandth of a per cent in one whole. A departure of an odd number of them is
+/// as near to one that can be shown as to the next.
+pub const HALVES: u64 = 2 * SHOWN_SCALE as u64;
+
+/// States up to three halves of a thousandth of a per cent above or below whole numbers of seats,
+/// or a voter beside that, and one more that makes the average whole. Methods give them those seats,
+/// so that a listing shows departures rounded from true halves and from less, on either side of
+/// zero.
+pub fn nearly_whole(random: &mut Random) -> (Vec<u64>, u64) {
+    let n = states(random).max(2);
+    let most = random.pick(&[1, 6, 25]);
+    let mut seats: Vec<u64> = (0..n).map(|_| random.from(1, most)).collect();
+    let house: u64 = seats.iter().sum();
+    // The voters of a seat are a multiple of the halves: so many voters are one half.
+    let half = match random.below(3) {
+        0 => 1,
+        1 => random.from(1, SUM_LIMIT / (HALVES * house)),
+        _ => SUM_LIMIT / (HALVES * house),
+    };
+    seats.pop();
+    let mut populations: Vec<u64> = seats
+        .iter()
+        .map(|a| a * half * random.from(HALVES - 3, HALVES + 3) + random.pick(&[0, 1, 1, 2]) - 1)
+        .collect();
+    let last = house * half * HALVES - populations.iter().sum::<u64>();
+    let at = random.below(n) as usize;
+    populations.insert(at, last);
+    (populations, house)
+}
+
 /// States of different populations that have one of two remainders of p × H by P, and one more
 /// that makes the sum: P is a unit times a divisor of the house, so that populations a multiple of
 /// the unit apart have the same remainder.
@@ -159,4 +189,28 @@ pub fn equal_remainders(random: &mut Random) -> (Vec<u64>, u64) {
         _ => parts * random.from(1, HOUSE_LIMIT / parts),
     };
     (populations, house)
+}
+
+#[cfg(test)]
+mod tests {
+    use super::*;
+    use reference::{allot, Method};
+
+    #[test]
+    fn every_method_gives_nearly_whole_shares_their_seats() {
+        for input in 0..100 {
+            let (populations, house) = nearly_whole(&mut Random::new(1, input));
+            let average = populations.iter().sum::<u64>() / house;
+            assert_eq!(average % HALVES, 0);
+            let expected: Vec<u64> = populations
+                .iter()
+                .map(|p| (p + average / 2) / average)
+                .collect();
+            for method in Method::ALL {
+                let mut seats = vec![0; populations.len()];
+                allot(method, house, &populations, &mut seats).unwrap();
+                assert_eq!(seats, expected, "{method:?} {populations:?}");
+            }
+        }
+    }
 }

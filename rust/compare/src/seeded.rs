@@ -1,8 +1,9 @@
 //! Seeded inputs of every kind.
 
 use crate::damage::{self, Draft};
+use crate::problem::{self, HALVES};
 use crate::random::Random;
-use crate::{placing, problem, Case, MOST_STATES};
+use crate::{placing, Case, MOST_STATES};
 use reference::{BYTES_LIMIT, HOUSE_LIMIT, SUM_LIMIT};
 
 /// The input with a given number under a seed.
@@ -161,33 +162,29 @@ fn walk(random: &mut Random) -> Case {
 
 /// A departure: anything, sound, at a half, or at the edge of a mark.
 fn departure(random: &mut Random) -> Case {
-    let house = match random.below(16) {
-        0 => random.pick(&[HOUSE_LIMIT - 1, HOUSE_LIMIT, HOUSE_LIMIT + 1]),
-        1..=3 => random.from(1, HOUSE_LIMIT),
-        _ => random.from(1, 12),
-    };
-    let seats = random.below(house + 1);
+    let (seats, house) = seats_of_house(random);
     let most = random.pick(&[50, 100_000, SUM_LIMIT]);
-    let (population, seats, total, house) = match random.below(6) {
+    let (population, seats, total, house) = match random.below(12) {
         0 => (random.wild(), random.wild(), random.wild(), random.wild()),
-        1 => {
+        1 | 2 => {
             let total = random.pick(&[most, SUM_LIMIT, SUM_LIMIT + 1, 0, 1]);
             let population = random.pick(&[0, 1, total, total + 1]);
             (population, seats + random.below(2), total, house)
         }
-        2 => {
-            // The total is a multiple of 20,000, so that halves abound.
-            let total = 20_000 * random.from(1, 6);
+        3 => {
+            // The total is a multiple of the halves, so that departures of an odd number abound.
+            let total = HALVES * random.from(1, 6);
             (random.from(1, total), seats, total, house)
         }
-        3 | 4 => {
+        4 | 5 => {
             // A share of 9, 11, 8.5 or 11.5 tenths of the seats, or next to it.
             let seats = seats.max(1);
-            let factor = random.from(1, (SUM_LIMIT / (20 * house)).min(10_000));
+            let factor = random.from(1, (SUM_LIMIT / (20 * house)).min(100_000));
             let population = random.pick(&[17, 18, 20, 22, 23]) * factor * seats;
             let population = population + random.below(3) - 1;
             (population, seats, 20 * factor * house, house)
         }
+        6..=9 => at_halves(random),
         _ => {
             let total = random.from(1, most);
             (random.from(1, total), seats, total, house)
@@ -198,5 +195,78 @@ fn departure(random: &mut Random) -> Case {
         seats,
         total,
         house,
+    }
+}
+
+/// Seats out of a house: mostly a small one, at times large, the limit or just past it.
+fn seats_of_house(random: &mut Random) -> (u64, u64) {
+    let house = match random.below(16) {
+        0 => random.pick(&[HOUSE_LIMIT - 1, HOUSE_LIMIT, HOUSE_LIMIT + 1]),
+        1..=3 => random.from(1, HOUSE_LIMIT),
+        _ => random.from(1, 12),
+    };
+    (random.below(house + 1), house)
+}
+
+/// Population, seats, total and house of a state whose share of the house, p × H / P, over its
+/// seats is a whole number of halves of a thousandth of a per cent; at times the state has a voter
+/// more or fewer.
+fn at_halves(random: &mut Random) -> (u64, u64, u64, u64) {
+    loop {
+        let (seats, house, halves) = seats_and_halves(random);
+        if let Some((population, total)) = solved(random, seats, house, halves) {
+            let population = population + random.pick(&[0, 1, 1, 2]) - 1;
+            return (population, seats, total, house);
+        }
+    }
+}
+
+/// Seats, a house, and the halves that the share over the seats is to be.
+fn seats_and_halves(random: &mut Random) -> (u64, u64, u64) {
+    let (seats, house) = seats_of_house(random);
+    let seats = seats.max(1);
+    let large = random.from(HOUSE_LIMIT - 3_000, HOUSE_LIMIT);
+    match random.below(6) {
+        0..=2 => (seats, house, random.from(HALVES - 3, HALVES + 3)),
+        3 => (seats, house, random.from(1, house * HALVES / seats)),
+        // Few seats and most of the voters, or most of the seats and few voters: p × H − a × P
+        // times the scale passes 63 bits if the total is near its limit. There are such totals
+        // where the halves are a multiple of 5, which cancels out.
+        4 => {
+            let seats = random.from(1, 3);
+            let fives = large * HALVES / seats / 5;
+            (seats, large, 5 * random.from(fives - fives / 10, fives))
+        }
+        _ => {
+            let seats = large - random.below(3);
+            (seats, large, 5 * random.from(1, HALVES / 50))
+        }
+    }
+}
+
+/// A population p and a total P for which p × H over a × P is the halves over those of one whole,
+/// if the limit of the total allows any: a small total, the largest, or one between.
+fn solved(random: &mut Random, seats: u64, house: u64, halves: u64) -> Option<(u64, u64)> {
+    let (over, under) = (seats * halves, house * HALVES);
+    let common = common_divisor(over, under);
+    let (over, under) = (over / common, under / common);
+    let most = SUM_LIMIT / under;
+    if most == 0 {
+        return None;
+    }
+    let factor = match random.below(3) {
+        0 => random.from(1, most.min(10)),
+        1 => random.from(1, most),
+        _ => most,
+    };
+    Some((over * factor, under * factor))
+}
+
+/// The greatest common divisor, by Euclid's rule.
+fn common_divisor(a: u64, b: u64) -> u64 {
+    if b == 0 {
+        a
+    } else {
+        common_divisor(b, a % b)
     }
 }

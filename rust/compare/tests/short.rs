@@ -1,8 +1,9 @@
 //! A short run of the comparison, and what makes a long one worth reading: every refusal is met,
-//! the limits are reached by chance too, and a printed input is the input that was run.
+//! the limits and departures that are hard to round are reached by chance too, and a printed input
+//! is the input that was run.
 
 use compare::{check, Case, Counts, Inputs};
-use reference::{BYTES_LIMIT, HOUSE_LIMIT, STATES_LIMIT};
+use reference::{BYTES_LIMIT, HOUSE_LIMIT, SHOWN_SCALE, STATES_LIMIT};
 use std::collections::HashSet;
 
 #[test]
@@ -83,6 +84,79 @@ fn seeded_inputs_reach_the_limits() {
     assert!(larger_houses > 600, "{larger_houses}");
     assert!(more_states > 600, "{more_states}");
     assert!(many_lines > 20, "{many_lines}");
+}
+
+/// Departures that are hard to round, by kind.
+#[derive(Debug, Default)]
+struct Roundings {
+    /// True halves above zero and below it.
+    halves: [u64; 2],
+    /// Those shown as zero that are above it and below it.
+    zeros: [u64; 2],
+    /// Those whose numerator times the scale passes 63 bits.
+    large: u64,
+}
+
+impl Roundings {
+    /// Counts the departure of a state with seats.
+    fn count(&mut self, population: u64, seats: u64, total: u64, house: u64) {
+        let seated = seats as i128 * total as i128;
+        let distance = population as i128 * house as i128 - seated;
+        let below = (distance < 0) as usize;
+        let scaled = SHOWN_SCALE as i128 * distance.abs();
+        if scaled % seated * 2 == seated {
+            self.halves[below] += 1;
+        }
+        if distance != 0 && scaled * 2 < seated {
+            self.zeros[below] += 1;
+        }
+        self.large += (scaled > i64::MAX as i128) as u64;
+    }
+}
+
+/// Counts the departures that a register's listing shows, if it is written.
+fn count_listed(bytes: &[u8], room: usize, roundings: &mut Roundings) {
+    if reference::write_listing(bytes, &mut vec![0; room]).is_err() {
+        return;
+    }
+    let register = reference::read(bytes).expect("a register that was listed");
+    let (house, populations) = (register.house, &register.populations);
+    let mut seats = vec![0; populations.len()];
+    reference::allot(register.method, house, populations, &mut seats)
+        .expect("a house that was listed");
+    for (&population, &seats) in populations.iter().zip(&seats) {
+        if seats > 0 {
+            roundings.count(population, seats, register.total, house);
+        }
+    }
+}
+
+#[test]
+fn seeded_inputs_reach_departures_that_are_hard_to_round() {
+    let inputs = Inputs::new(1);
+    let mut single = Roundings::default();
+    let mut listed = Roundings::default();
+    for number in inputs.fixed()..inputs.fixed() + 20_000 {
+        match inputs.get(number) {
+            Case::Departure {
+                population,
+                seats,
+                total,
+                house,
+            } => {
+                let answer = reference::departure(population, seats, total, house);
+                if let Ok(Some(_)) = answer {
+                    single.count(population, seats, total, house);
+                }
+            }
+            Case::Register { room, bytes, .. } => count_listed(&bytes, room, &mut listed),
+            _ => (),
+        }
+    }
+    for met in [single.halves, single.zeros, listed.halves, listed.zeros] {
+        assert!(met[0] > 25 && met[1] > 25, "{single:?} {listed:?}");
+    }
+    assert!(single.large > 50, "{single:?}");
 }
 
 #[test]

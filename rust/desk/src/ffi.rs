@@ -44,12 +44,12 @@ pub struct Placed {
     pub placing: Placing,
 }
 
-/// A shown departure in hundredths of a per cent, and its mark.
+/// A shown departure in thousandths of a per cent, and its mark.
 #[repr(C)]
 #[derive(Clone, Copy, Debug, PartialEq, Eq)]
 pub struct Shown {
     pub refusal: u64,
-    pub hundredths: i64,
+    pub shown: i64,
     pub mark: u64,
 }
 

@@ -9,7 +9,7 @@
 //! let listing = desk::listing(register).unwrap();
 //! assert_eq!(
 //!     String::from_utf8(listing).unwrap(),
-//!     "allotment,leximin,3,2\nNorth,100,1,0.00,in\nSouth,200,2,0.00,in\ntotal,300,3\n"
+//!     "allotment,leximin,3,2\nNorth,100,1,0.000,in\nSouth,200,2,0.000,in\ntotal,300,3\n"
 //! );
 //!
 //! // The same seats without a register.
@@ -26,10 +26,12 @@ pub mod ffi;
 
 /// The most states a register may have.
 pub const STATES_LIMIT: usize = 800;
+/// The thousandths of a per cent in one whole: a departure shown as so many is 100 per cent.
+pub const SHOWN_SCALE: i64 = 100_000;
 /// Room for a listing's first line: `allotment,remainders,30000,800` and its end.
 const HEAD_ROOM: usize = 31;
-/// Room for a state's line: a name of 32 bytes, `,4294967295,30000,2999900.00,high` and its end.
-const LINE_ROOM: usize = 66;
+/// Room for a state's line: a name of 32 bytes, `,4294967295,30000,2999900.000,high` and its end.
+const LINE_ROOM: usize = 67;
 /// Room for the line of totals: `total,4294967295,30000` and its end.
 const TOTAL_ROOM: usize = 23;
 /// Room for any listing, as the library is proved to.
@@ -213,10 +215,11 @@ pub enum Mark {
     Over,
 }
 
-/// A departure as it is shown, in hundredths of a per cent, and the mark of its exact size.
+/// A departure as it is shown, in thousandths of a per cent ([`SHOWN_SCALE`] of them are one
+/// whole), and the mark of its exact size.
 #[derive(Clone, Copy, Debug, PartialEq, Eq)]
 pub struct Departure {
-    pub hundredths: i64,
+    pub shown: i64,
     pub mark: Mark,
 }
 
@@ -229,13 +232,11 @@ pub fn departure(
     house: u64,
 ) -> Result<Option<Departure>, Refusal> {
     // SAFETY: numbers alone are handed over.
-    let shown = unsafe { ffi::desk_departure(population, seats, total, house) };
-    outcome(shown.refusal, 0)?;
-    let mark = [Some(Mark::In), Some(Mark::High), Some(Mark::Over), None][shown.mark as usize];
-    Ok(mark.map(|mark| Departure {
-        hundredths: shown.hundredths,
-        mark,
-    }))
+    let answer = unsafe { ffi::desk_departure(population, seats, total, house) };
+    outcome(answer.refusal, 0)?;
+    let mark = [Some(Mark::In), Some(Mark::High), Some(Mark::Over), None][answer.mark as usize];
+    let shown = answer.shown;
+    Ok(mark.map(|mark| Departure { shown, mark }))
 }
 
 /// Writes the listing of a register at the front of a lent buffer and hands back its length:

@@ -211,7 +211,7 @@ fn a_register_at_the_limits_is_read_and_listed() {
     assert_eq!(name_at(800).unwrap_err().number, 40);
     let listing = listing(&bytes).unwrap();
     assert!(listing.len() <= LISTING_ROOM);
-    assert!(listing.ends_with(b"799,5368709,37,1.35,in\ntotal,4294967200,30000\n"));
+    assert!(listing.ends_with(b"799,5368709,37,1.351,in\ntotal,4294967200,30000\n"));
 
     for past in [
         register(HOUSE_LIMIT + 1, STATES_LIMIT),
@@ -225,17 +225,37 @@ fn a_register_at_the_limits_is_read_and_listed() {
 
 #[test]
 fn departures_are_shown_and_marked() {
-    let shown = |hundredths, mark| Ok(Some(Departure { hundredths, mark }));
-    assert_eq!(departure(11, 1, 20, 2), shown(1_000, Mark::In));
-    assert_eq!(departure(1_101, 1, 2_000, 2), shown(1_010, Mark::High));
-    assert_eq!(departure(115_004, 1, 200_000, 2), shown(1_500, Mark::Over));
-    assert_eq!(departure(26, 3, 201, 20), shown(-1_376, Mark::High));
+    let shown = |shown, mark| Ok(Some(Departure { shown, mark }));
+    assert_eq!(departure(11, 1, 20, 2), shown(10_000, Mark::In));
+    assert_eq!(departure(1_101, 1, 2_000, 2), shown(10_100, Mark::High));
+    assert_eq!(departure(115_004, 1, 200_000, 2), shown(15_004, Mark::Over));
+    let beyond = departure(1_100_001, 1, 2_000_000, 2);
+    assert_eq!(beyond, shown(10_000, Mark::High));
+    assert_eq!(departure(26, 3, 201, 20), shown(-13_765, Mark::High));
+    assert_eq!(departure(4, 1, 8, 4), shown(SHOWN_SCALE, Mark::Over));
     assert_eq!(departure(1, 0, 100, 2), Ok(None));
+}
+
+#[test]
+fn halves_of_a_thousandth_are_rounded_away_from_zero() {
+    let shown = |p, total, house| departure(p, 1, total, house).unwrap().unwrap().shown;
+    assert_eq!(shown(200_001, 400_000, 2), 1);
+    assert_eq!(shown(199_999, 400_000, 2), -1);
+    assert_eq!(shown(250_001, 500_000, 2), 0);
+    assert_eq!(shown(249_999, 500_000, 2), 0);
+    assert_eq!(shown(133_334, 4_000_000_000, HOUSE_LIMIT), 1);
+    let large = shown(3_999_999_998, 4_000_000_000, HOUSE_LIMIT);
+    assert_eq!(large, 2_999_899_999);
+}
+
+#[test]
+fn the_largest_departures_are_shown() {
     let most = 4_294_967_295;
-    assert_eq!(
-        departure(most, 1, most, HOUSE_LIMIT),
-        shown(299_990_000, Mark::Over)
-    );
+    let shown = |shown, mark| Ok(Some(Departure { shown, mark }));
+    let above = departure(most, 1, most, HOUSE_LIMIT);
+    assert_eq!(above, shown(2_999_900_000, Mark::Over));
+    let below = departure(1, HOUSE_LIMIT, most, HOUSE_LIMIT);
+    assert_eq!(below, shown(-SHOWN_SCALE, Mark::Over));
     assert_eq!(
         departure(most, 1, most, HOUSE_LIMIT + 1)
             .unwrap_err()

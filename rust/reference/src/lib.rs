@@ -1,6 +1,6 @@
-//! A plain allotment desk, written from document 01 alone, to compare the proved one with.
-//! It takes the straight road everywhere: 128-bit integers, a heap of claims met one by one,
-//! sorting, and for small problems a search through every allotment.
+//! A plain allotment desk, written from document 01 and its change requests alone, to compare the
+//! proved one with. It takes the straight road everywhere: 128-bit integers, a heap of claims met
+//! one by one, sorting, and for small problems a search through every allotment.
 
 mod allotting;
 mod departure;
@@ -9,7 +9,7 @@ mod listing;
 mod register;
 
 pub use allotting::{allot, check_problem};
-pub use departure::{departure, mark_name, shown, Mark};
+pub use departure::{departure, mark_name, shown_text, Mark, SHOWN_SCALE};
 pub use leximin::{open, search, way, Placing};
 pub use listing::{listing, write_listing};
 pub use register::{name, read, Register};

@@ -1,6 +1,6 @@
 //! The listing of a register's allotment.
 
-use crate::{allot, departure, mark_name, read, refusal, shown, Refusal};
+use crate::{allot, departure, mark_name, read, refusal, shown_text, Refusal};
 use std::io::Write;
 
 /// The listing for a register.
@@ -16,10 +16,10 @@ pub fn listing(bytes: &[u8]) -> Result<Vec<u8>, Refusal> {
     writeln!(out, "allotment,{method},{house},{n}").expect(written);
     for ((name, &p), &a) in register.names.iter().zip(&register.populations).zip(&seats) {
         let departure = departure(p, a, total, house)?;
-        let hundredths = shown(departure.map(|(h, _)| h));
-        let mark = mark_name(departure.map(|(_, m)| m));
+        let shown = shown_text(departure.map(|(shown, _)| shown));
+        let mark = mark_name(departure.map(|(_, mark)| mark));
         out.extend_from_slice(name);
-        writeln!(out, ",{p},{a},{hundredths},{mark}").expect(written);
+        writeln!(out, ",{p},{a},{shown},{mark}").expect(written);
     }
     writeln!(out, "total,{total},{}", seats.iter().sum::<u64>()).expect(written);
     Ok(out)

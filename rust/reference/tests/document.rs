@@ -213,43 +213,98 @@ fn forged_placings_are_refused_21_and_come_back_as_they_were() {
 
 // ---- Departures
 
+/// A sound state's departure as it is shown.
+fn shown(p: u64, a: u64, total: u64, house: u64) -> i64 {
+    let (shown, _) = departure(p, a, total, house).unwrap().unwrap();
+    shown
+}
+
 #[test]
 fn marks_come_from_the_exact_size() {
-    assert_eq!(departure(11, 1, 20, 2), Ok(Some((1000, Mark::In))));
-    assert_eq!(departure(1_101, 1, 2_000, 2), Ok(Some((1010, Mark::High))));
+    // A population and the total, with one seat of two: what is shown and marked.
+    for (p, total, text, mark) in [
+        (11, 20, "10.000", Mark::In),
+        (1_101, 2_000, "10.100", Mark::High),
+        (115_004, 200_000, "15.004", Mark::Over),
+        (9, 20, "-10.000", Mark::In),
+        (115, 200, "15.000", Mark::High),
+        // Beyond a limit by less than what is shown.
+        (1_100_001, 2_000_000, "10.000", Mark::High),
+        (899_999, 2_000_000, "-10.000", Mark::High),
+        (1_150_001, 2_000_000, "15.000", Mark::Over),
+        (849_999, 2_000_000, "-15.000", Mark::Over),
+    ] {
+        let (shown, found) = departure(p, 1, total, 2).unwrap().unwrap();
+        assert_eq!((&shown_text(Some(shown))[..], found), (text, mark));
+    }
+}
+
+#[test]
+fn departures_a_thousandth_apart_are_shown_apart() {
+    assert_eq!(departure(11, 1, 20, 2), Ok(Some((10_000, Mark::In))));
     assert_eq!(
-        departure(115_004, 1, 200_000, 2),
-        Ok(Some((1500, Mark::Over)))
+        departure(110_001, 1, 200_000, 2),
+        Ok(Some((10_001, Mark::High)))
     );
-    assert_eq!(departure(115, 1, 200, 2), Ok(Some((1500, Mark::High))));
 }
 
 #[test]
 fn halves_are_rounded_away_from_zero() {
-    let hundredths = |p, a, total, house| departure(p, a, total, house).unwrap().unwrap().0;
-    // p of 20,000 with a house of 1 departs by p / 2 - 10,000 hundredths.
-    assert_eq!(hundredths(19_999, 1, 20_000, 1), -1);
-    assert_eq!(hundredths(19_997, 1, 20_000, 1), -2);
-    assert_eq!(hundredths(10_001, 1, 20_000, 2), 1);
-    assert_eq!(hundredths(20_001, 1, 40_000, 2), 1);
-    assert_eq!(hundredths(40_001, 1, 80_000, 2), 0);
-    assert_eq!(hundredths(39_999, 1, 80_000, 2), 0);
-    assert_eq!(shown(Some(0)), "0.00");
-    assert_eq!(shown(Some(-1)), "-0.01");
-    assert_eq!(shown(Some(-110)), "-1.10");
-    let largest = hundredths(SUM_LIMIT, 1, SUM_LIMIT, HOUSE_LIMIT);
-    assert_eq!(largest, 299_990_000);
-    assert_eq!(shown(Some(largest)), "2999900.00");
-    assert_eq!(hundredths(1, HOUSE_LIMIT, SUM_LIMIT, HOUSE_LIMIT), -10_000);
+    // p of 400,000 with one seat of two departs by (p - 200,000) / 2 thousandths.
+    assert_eq!(shown(200_001, 1, 400_000, 2), 1);
+    assert_eq!(shown(199_999, 1, 400_000, 2), -1);
+    assert_eq!(shown(200_002, 1, 400_000, 2), 1);
+    assert_eq!(shown(200_003, 1, 400_000, 2), 2);
+    assert_eq!(shown(199_997, 1, 400_000, 2), -2);
+    // At the limits: a half, 2,999,899,998 and a half, and -99,998 and a half.
+    assert_eq!(shown(133_334, 1, 4_000_000_000, HOUSE_LIMIT), 1);
+    let large = shown(3_999_999_998, 1, 4_000_000_000, HOUSE_LIMIT);
+    assert_eq!(large, 2_999_899_999);
+    let small = shown(60_000, HOUSE_LIMIT, 4_000_000_000, HOUSE_LIMIT);
+    assert_eq!(small, -99_999);
+}
+
+#[test]
+fn less_than_a_half_is_shown_as_zero_on_either_side() {
+    assert_eq!(shown(250_001, 1, 500_000, 2), 0);
+    assert_eq!(shown(249_999, 1, 500_000, 2), 0);
+    assert_eq!(shown(133_333, 1, 4_000_000_000, HOUSE_LIMIT), 0);
+}
+
+#[test]
+fn the_largest_departures() {
+    let largest = shown(SUM_LIMIT, 1, SUM_LIMIT, HOUSE_LIMIT);
+    assert_eq!(largest, 2_999_900_000);
+    assert_eq!(largest, SHOWN_SCALE * (HOUSE_LIMIT as i64 - 1));
+    let least = shown(1, HOUSE_LIMIT, SUM_LIMIT, HOUSE_LIMIT);
+    assert_eq!(least, -SHOWN_SCALE);
+}
+
+#[test]
+fn a_departure_is_written_with_three_digits_after_the_point() {
+    for (shown, text) in [
+        (0, "0.000"),
+        (1, "0.001"),
+        (-1, "-0.001"),
+        (-10, "-0.010"),
+        (-999, "-0.999"),
+        (1_000, "1.000"),
+        (-1_100, "-1.100"),
+        (-SHOWN_SCALE, "-100.000"),
+        (2_999_899_999, "2999899.999"),
+        (2_999_900_000, "2999900.000"),
+    ] {
+        assert_eq!(shown_text(Some(shown)), text);
+    }
+    assert_eq!(shown_text(None), "none");
 }
 
 #[test]
 fn a_state_without_seats_shows_none() {
     assert_eq!(departure(5, 0, 10, 3), Ok(None));
-    assert_eq!(shown(None), "none");
     assert_eq!(
         listing(b"register,webster,2,2\nA,1\nB,99\ntotal,100\n").unwrap(),
-        b"allotment,webster,2,2\nA,1,0,none,none\nB,99,2,-1.00,in\ntotal,100,2\n"
+        b"allotment,webster,2,2\nA,1,0,none,none\nB,99,2,-1.000,in\ntotal,100,2\n"
     );
 }
 
@@ -406,6 +461,47 @@ fn names_by_place() {
 
 // ---- Listing
 
+/// A register's listing as text.
+fn listed(register: &str) -> String {
+    String::from_utf8(listing(register.as_bytes()).unwrap()).unwrap()
+}
+
+#[test]
+fn the_listing_of_the_document() {
+    assert_eq!(
+        listed("register,leximin,20,5\nA,26\nB,27\nC,28\nD,29\nE,91\ntotal,201\n"),
+        "allotment,leximin,20,5\n\
+         A,26,3,-13.765,high\n\
+         B,27,3,-10.448,high\n\
+         C,28,3,-7.131,in\n\
+         D,29,3,-3.814,in\n\
+         E,91,8,13.184,high\n\
+         total,201,20\n"
+    );
+}
+
+#[test]
+fn a_listing_shows_halves_zeros_and_marks() {
+    // The populations of two states with one seat each, and what is shown and marked.
+    for (populations, lines) in [
+        ([200_001, 199_999], ["0.001,in", "-0.001,in"]),
+        ([249_999, 250_001], ["0.000,in", "0.000,in"]),
+        ([110_001, 89_999], ["10.001,high", "-10.001,high"]),
+        ([1_100_001, 899_999], ["10.000,high", "-10.000,high"]),
+        ([84_996, 115_004], ["-15.004,over", "15.004,over"]),
+    ] {
+        let [p, q] = populations;
+        let total = p + q;
+        assert_eq!(
+            listed(&format!("register,hill,2,2\nA,{p}\nB,{q}\ntotal,{total}\n")),
+            format!(
+                "allotment,hill,2,2\nA,{p},1,{}\nB,{q},1,{}\ntotal,{total},2\n",
+                lines[0], lines[1]
+            )
+        );
+    }
+}
+
 #[test]
 fn a_listing_fits_exactly_or_is_refused_31() {
     let register = b"register,remainders,2,2\nA,1\nB,3\ntotal,4\n";
@@ -431,15 +527,14 @@ fn a_listing_fits_exactly_or_is_refused_31() {
 }
 
 #[test]
-fn a_listing_is_never_longer_than_52_854_bytes() {
+fn a_listing_is_never_longer_than_53_654_bytes() {
     let longest_head = format!("allotment,remainders,{HOUSE_LIMIT},{STATES_LIMIT}\n").len();
-    let largest = departure(SUM_LIMIT, 1, SUM_LIMIT, HOUSE_LIMIT).unwrap();
-    let departure = shown(largest.map(|(hundredths, _)| hundredths));
+    let departure = shown_text(Some(shown(SUM_LIMIT, 1, SUM_LIMIT, HOUSE_LIMIT)));
     let longest_state = 32 + format!(",{SUM_LIMIT},{HOUSE_LIMIT},{departure},high\n").len();
     let longest_closing = format!("total,{SUM_LIMIT},{HOUSE_LIMIT}\n").len();
-    assert_eq!((longest_head, longest_state, longest_closing), (31, 66, 23));
+    assert_eq!((longest_head, longest_state, longest_closing), (31, 67, 23));
     assert_eq!(
         longest_head + STATES_LIMIT * longest_state + longest_closing,
-        52_854
+        53_654
     );
 }

@@ -22,8 +22,8 @@ returns-2 c = unseated-answer _ _ _ _ (sym (c .before .before .departure-refusal
 of-requires : tie.Need-of-requires
 of-requires c κs = not-refused _ _ _ _ (sym (c .before .before .departure-refusal .ensures) ∙ c .before .if1 .left)
 
-hundredths-requires : tie.Need-hundredths-requires
-hundredths-requires c κs =
+shown-requires : tie.Need-shown-requires
+shown-requires c κs =
     rw (c .of .ensures, exact-size)
     (moderate-size (of-requires (c .before) κs) (pos-of-ne-zero (c .before .if2 .left)))
 
@@ -34,8 +34,8 @@ returns-3 : tie.Need-returns-3
 returns-3 c =
     let seated = c .before .before .before in
     rw (
-      read-back (c .before .hundredths .result) (c .before .hundredths .ok),
-      c .before .hundredths .ensures,
+      read-back (c .before .shown .result) (c .before .shown .ok),
+      c .before .shown .ensures,
       c .mark .ensures,
       c .before .before .of .ensures,
       exact-shown,
@@ -51,6 +51,6 @@ departure-of-spec =
     returns
     returns-2
     of-requires
-    hundredths-requires
+    shown-requires
     mark-requires
     returns-3)

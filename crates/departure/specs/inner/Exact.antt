@@ -11,7 +11,7 @@ use lib.IntN.{ℤ, pos, negsuc, negℤ, natAbs, _-ℤ_}
 use borrow.Author.Tests.{ltb-true, ltb-false, lt-ltb, le-ltb}
 use Rattle.apportionment.specs.inner.Tests.{either-way}
 use Rattle.apportionment.specs.Limits.{houseLimit, sumLimit}
-use Rattle.apportionment.specs.Quantities.{Fraction, distance, sizeOf, isBelow, hundredthsOf, shownOf}
+use Rattle.apportionment.specs.Quantities.{Fraction, distance, sizeOf, isBelow, shownSize, shownOf}
 use Rattle.departure.specs.declared.Departure.{Departure}
 
 -- The departure of a state with population p and a seats, a ≥ 1: (p H - a P) / (a P).
@@ -27,9 +27,9 @@ unfoldable pub signed : ℤ → ℕ → ℤ
 signed (pos n) m = pos m
 signed (negsuc n) m = negℤ (pos m)
 
--- The shown departure in hundredths of a per cent.
+-- The shown departure.
 unfoldable pub shown : Departure → ℤ
-shown d = signed (d .numerator) (hundredthsOf (size d))
+shown d = signed (d .numerator) (shownSize (size d))
 
 -- ---- differences
 
@@ -69,12 +69,12 @@ exact-size p a P H = ap (λ (n : ℕ). record { over = n; under = a * P }) (minu
 pub exact-shown : (p a P H : ℕ) → shown (exactOf p a P H) ≡ shownOf p a P H
 unfolding shown exactOf shownOf isBelow
 exact-shown p a P H =
-    ap (λ (s : Fraction). signed (pos (p * H) -ℤ pos (a * P)) (hundredthsOf s)) (exact-size p a P H)
-    ∙ minus-sign (p * H) (a * P) (hundredthsOf (sizeOf p a P H))
+    ap (λ (s : Fraction). signed (pos (p * H) -ℤ pos (a * P)) (shownSize s)) (exact-size p a P H)
+    ∙ minus-sign (p * H) (a * P) (shownSize (sizeOf p a P H))
 
 -- ---- sizes within the limits
 
--- A size whose parts are as large as the limits allow, and no larger: what 64 bits can round.
+-- A size that 64 bits can round: its denominator is within the limits, and its whole part at most the largest house. A state's own is less.
 pub record Moderate (s : Fraction) : Type 0 where
   pub positive : 0 < s .under
   pub narrow : s .under ≤ houseLimit * sumLimit

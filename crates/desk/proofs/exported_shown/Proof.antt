@@ -1,4 +1,4 @@
--- `desk::exported_shown` puts the mark's number beside the hundredths.
+-- `desk::exported_shown` puts the mark's number beside the shown departure.
 -- Assumes nothing.
 use mathlib.Core.Path.{_≡_}
 use mathlib.Core.Option.{some}
@@ -15,20 +15,20 @@ use Rattle.desk.specs.Exported.{exportedShown}
 use Rattle.desk.proofs.exported_shown.Statement.{statement}
 use Rattle.desk.proofs.exported_shown.Tie as tie
 
--- The record that is made is the definition's, once its word is read back as the hundredths.
-shown-is : (word h : ℤ) (m : Mark) (number : ℕ) → word ≡ h → number ≡ markNumber m
-    → _≡_ {A = DeskShown} (record { refusal = accepted; hundredths = word; mark = number })
-    (exportedShown accepted (some h) (some m))
+-- The record that is made is the definition's, once its word is read back as the shown departure.
+shown-is : (word s : ℤ) (m : Mark) (number : ℕ) → word ≡ s → number ≡ markNumber m
+    → _≡_ {A = DeskShown} (record { refusal = accepted; shown = word; mark = number })
+    (exportedShown accepted (some s) (some m))
 unfolding exportedShown
-shown-is word h m number e f = rw (e, f)
+shown-is word s m number e f = rw (e, f)
 
 mark-number-requires : tie.Need-mark-number-requires
 mark-number-requires c κs = search needs
 
 returns : tie.Need-returns
 returns c =
-    shown-is _ (c .before .args .hundredths) (c .before .args .mark) _
-    (toZ-ofZ w64 (c .before .args .hundredths) (c .before .fits .hundredths)) (c .mark-number .ensures)
+    shown-is _ (c .before .args .shown) (c .before .args .mark) _
+    (toZ-ofZ w64 (c .before .args .shown) (c .before .fits .shown)) (c .mark-number .ensures)
 
 pub exported-shown-spec : {M : Type 1} → statement M
 exported-shown-spec = tie.close (tie.spec mark-number-requires returns)

@@ -9,7 +9,7 @@ use lib.ListN.{length}
 use Rattle.apportionment.specs.Refusals.{accepted}
 use Rattle.apportionment.specs.Text.{bytesOf, decimal, decimalWith}
 use Rattle.apportionment.specs.Lists.{sum}
-use Rattle.apportionment.specs.Quantities.{less, atMost, distance, sizeOf, isBelow, nearestWhole, hundredthsOf, shownOf, hundredthsText}
+use Rattle.apportionment.specs.Quantities.{less, atMost, distance, sizeOf, isBelow, nearestWhole, shownSize, shownOf, shownSizeText}
 use Rattle.apportionment.specs.Quantities.{shownText, departureText, markOf, markFor, markText}
 use Rattle.apportionment.specs.Leximin.{sizesOf, insert, largestFirst, listLess, moreAtFirst, sizeList, chosenBefore, withFirst}
 use Rattle.apportionment.specs.Leximin.{allotments, firstOf, firstOfAll, leximinFor}
@@ -29,17 +29,17 @@ use Rattle.listing.specs.inner.Rows.{same-listing}
 abbrev exampleListing : List ℕ
 exampleListing =
     bytesOf "allotment,leximin,20,5\n"
-    ++ bytesOf "A,26,3,-13.76,high\n"
-    ++ bytesOf "B,27,3,-10.45,high\n"
-    ++ bytesOf "C,28,3,-7.13,in\n"
-    ++ bytesOf "D,29,3,-3.81,in\n"
-    ++ bytesOf "E,91,8,13.18,high\n"
+    ++ bytesOf "A,26,3,-13.765,high\n"
+    ++ bytesOf "B,27,3,-10.448,high\n"
+    ++ bytesOf "C,28,3,-7.131,in\n"
+    ++ bytesOf "D,29,3,-3.814,in\n"
+    ++ bytesOf "E,91,8,13.184,high\n"
     ++ bytesOf "total,201,20\n"
 
 -- What is read of the document's register, with the names of its states, comes to the document's listing ..
 listing-laid-out : listingIn exampleReading exampleName (seatsIn exampleReading) ≡ exampleListing
 unfolding listingIn numbersText headLine stateLines stateLine departureText totalLine seatsIn methodText decimal decimalWith sum less atMost
-    distance sizeOf isBelow nearestWhole hundredthsOf shownOf hundredthsText shownText markOf markFor markText sizesOf insert largestFirst
+    distance sizeOf isBelow nearestWhole shownSize shownOf shownSizeText shownText markOf markFor markText sizesOf insert largestFirst
     listLess moreAtFirst sizeList chosenBefore withFirst allotments firstOf firstOfAll leximinFor seatsOf
 listing-laid-out = refl
 

@@ -20,14 +20,14 @@ use Rattle.departure.specs.inner.Answer.{InLimits, AllInLimits}
 use Rattle.listing.specs.Listing.{headLine, stateLine, stateLines, populationsIn, listingIn}
 
 -- The room that each kind of line takes: its fields at their longest, its commas and its line end.
---   head: the word and the method 10 each, the house 5, the number of states 3;
---   state: the name 32, the population 10, the seats 5, the departure 10, the mark 4;
+--   head: the word 9, the method 10, the house 5, the number of states 3;
+--   state: the name 32, the population 10, the seats 5, the departure 11, the mark 4;
 --   total: the word 5, the sum 10, the seats 5.
 abbrev pub headRoom : ℕ
 headRoom = 31
 
 abbrev pub lineRoom : ℕ
-lineRoom = 66
+lineRoom = 67
 
 abbrev pub totalRoom : ℕ
 totalRoom = 23

@@ -25,21 +25,21 @@ use Rattle.showing.specs.Work.{verbText, stepLine, seatsIn, statesText, 
 use Rattle.showing.specs.inner.Showable.{totalLimit, Showable, ShowableStep, all-weighable, moved-from, moved-to}
 
 -- The room that each kind of line takes: its fields at their longest, its commas and its line end.
---   state: the word 5, the name 32, the population 10, the seats 5, the departure 10;
+--   state: the word 5, the name 32, the population 10, the seats 5, the departure 11;
 --   total: the word 5, the sum 10, the seats 5;
---   weighed: the word 7, the step 3, the name 32, both seats 5 each, both departures 10 each;
---   step: the word 4, the step 3, `gives up` 8, the name 32, both seats 5 each, both departures 10 each, the total 5.
+--   weighed: the word 7, the step 3, the name 32, both seats 5 each, both departures 11 each;
+--   step: the word 4, the step 3, `gives up` 8, the name 32, both seats 5 each, both departures 11 each, the total 5.
 abbrev stateRoom : ℕ
-stateRoom = 67
+stateRoom = 68
 
 abbrev totalRoom : ℕ
 totalRoom = 23
 
 abbrev pub weighedRoom : ℕ
-weighedRoom = 79
+weighedRoom = 81
 
 abbrev pub stepRoom : ℕ
-stepRoom = 91
+stepRoom = 93
 
 -- The room that every block has enough of.
 abbrev pub pageRoom : ℕ
@@ -97,7 +97,7 @@ module _ {rows : List ℕ} {p : Placing} {P : ℕ} (fit : Showable rows p P) whe
 -- ---- a step
 
 moved-length : (name : List ℕ) {p a b P H : ℕ} → length name ≤ nameLimit → InLimits p a P H → InLimits p b P H
-    → length (movedText name p a b P H) ≤ 66
+    → length (movedText name p a b P H) ≤ 68
 unfolding movedText
 moved-length name {p} {a} {b} short from to =
     simp length-append

@@ -11,7 +11,7 @@ use lib.ListN.{length, length-append}
 use Rattle.apportionment.specs.inner.Tests.{either-way}
 use Rattle.apportionment.specs.Limits.{stateLimit, houseLimit, sumLimit}
 use Rattle.apportionment.specs.Text.{decimal}
-use Rattle.apportionment.specs.Quantities.{hundredthsText, markText}
+use Rattle.apportionment.specs.Quantities.{shownSizeText, markText}
 use Rattle.apportionment.specs.declared.Mark.{Mark}
 use Rattle.apportionment.specs.declared.Mark.the-variants.{In, High, Over, None}
 use Rattle.apportionment.specs.declared.Method.{Method}
@@ -43,10 +43,10 @@ decimal-of-house n bound = decimal-length 4 n (omega arith)
 pub decimal-of-states : (n : ℕ) → n ≤ stateLimit → length (decimal n) ≤ 3
 decimal-of-states n bound = decimal-length 2 n (omega arith)
 
--- Hundredths have their whole part, a point and two digits.
-pub hundredths-length : (h : ℕ) → length (hundredthsText h) ≡ length (decimal (h / 100)) + 3
-unfolding hundredthsText
-hundredths-length h = simp length-append (omega arith)
+-- A shown size has its whole per cent, a point and three digits.
+pub shown-size-length : (s : ℕ) → length (shownSizeText s) ≡ length (decimal (s / 1000)) + 4
+unfolding shownSizeText
+shown-size-length s = simp length-append (omega arith)
 
 -- A mark's word, and a method's.
 pub mark-length : (mark : Mark) → length (markText mark) ≤ 4

@@ -12,7 +12,7 @@ use lib.Dec.{ltb}
 use lib.IntN.{ℤ, pos, negsuc, natAbs}
 use lib.Signed.{ltZ}
 use Rattle.apportionment.specs.Text.{bytesOf, decimal, decimalWith, digit}
-use Rattle.apportionment.specs.Quantities.{hundredthsText, shownText}
+use Rattle.apportionment.specs.Quantities.{shownSizeText, shownText}
 
 -- A digit less needs one less of fuel.
 tens-fuel : (f n : ℕ) → n ≤ suc f → n / 10 ≤ f
@@ -44,13 +44,13 @@ decimal-more (suc n) large =
     (decimal-fuel n (suc n / 10) (suc n / 10) (tens-fuel n (suc n) (omega arith)) (omega arith)))
 
 -- A shown number below zero is a minus sign and its size.
-pub shown-below : (shown : ℤ) → ltZ shown (pos 0) ≡ true → shownText shown ≡ bytesOf "-" ++ hundredthsText (natAbs shown)
+pub shown-below : (shown : ℤ) → ltZ shown (pos 0) ≡ true → shownText shown ≡ bytesOf "-" ++ shownSizeText (natAbs shown)
 unfolding shownText
-shown-below (pos h) below = absurd (omega (arith, ltb-true h 0 below))
-shown-below (negsuc h) below = ap (λ (n : ℕ). bytesOf "-" ++ hundredthsText n) (add-one h)
+shown-below (pos s) below = absurd (omega (arith, ltb-true s 0 below))
+shown-below (negsuc s) below = ap (λ (n : ℕ). bytesOf "-" ++ shownSizeText n) (add-one s)
 
 -- Any other is its size.
-pub shown-above : (shown : ℤ) → ltZ shown (pos 0) ≡ false → shownText shown ≡ hundredthsText (natAbs shown)
+pub shown-above : (shown : ℤ) → ltZ shown (pos 0) ≡ false → shownText shown ≡ shownSizeText (natAbs shown)
 unfolding shownText
-shown-above (pos h) above = refl
-shown-above (negsuc h) above = absurd (true≢false above)
+shown-above (pos s) above = refl
+shown-above (negsuc s) above = absurd (true≢false above)

@@ -14,21 +14,21 @@ use lib.ListN.{length}
 use Rattle.apportionment.specs.Limits.{houseLimit}
 use Rattle.apportionment.specs.Refusals.{accepted}
 use Rattle.apportionment.specs.Text.{bytesOf}
-use Rattle.apportionment.specs.Quantities.{isBelow, sizeOf, hundredthsOf, shownOf, shownText, departureText, markFor, markText}
+use Rattle.apportionment.specs.Quantities.{isBelow, sizeOf, shownScale, shownSize, shownOf, shownText, departureText, markFor, markText}
 use Rattle.apportionment.specs.inner.Tests.{cond-both}
 use Rattle.apportionment.specs.inner.Quantities.{largest-above, largest-below}
 use Rattle.departure.specs.declared.Answer.{Answer}
 use Rattle.departure.specs.Answer.{departureRefusal, departureShown, departureMark, shownIn, markIn, AnswerIs}
 use Rattle.departure.specs.inner.Answer.{InLimits, accepted-exactly}
-use Rattle.text.specs.inner.Bounds.{decimal-length, hundredths-length}
+use Rattle.text.specs.inner.Bounds.{decimal-length, shown-size-length}
 
 -- ---- what an answer is written as
 
-shown-or-none : (t : Bool) (h : ℤ)
-    → Option·elim (cond t none (some h)) (bytesOf "none") shownText ≡ cond t (bytesOf "none") (shownText h)
+shown-or-none : (t : Bool) (s : ℤ)
+    → Option·elim (cond t none (some s)) (bytesOf "none") shownText ≡ cond t (bytesOf "none") (shownText s)
 unfolding Option·elim
-shown-or-none true h = refl
-shown-or-none false h = refl
+shown-or-none true s = refl
+shown-or-none false s = refl
 
 module _ {p a P H : ℕ} {answer : Answer} (within : InLimits p a P H) (is : AnswerIs p a P H answer) where
   not-refused : eqb (departureRefusal p a P H) accepted ≡ true
@@ -46,26 +46,26 @@ module _ {p a P H : ℕ} {answer : Answer} (within : InLimits p a P H) (is : Ans
 
 -- ---- how long it can be
 
--- The room of a departure. Above the average it is at most the largest house less one: 29999 wholes, so seven digits, a point and two more.
--- Below it is at most one hundred per cent, so that the sign finds room there.
+-- The room of a departure. Above the average it is at most the largest house less one: 29999 wholes, so seven digits, a point and three
+-- more. Below it is at most one hundred per cent, so that the sign finds room there.
 abbrev pub departureRoom : ℕ
-departureRoom = 10
+departureRoom = 11
 
-above-length : (h : ℕ) → h ≤ 10000 * (houseLimit - 1) → length (shownText (pos h)) ≤ departureRoom
+above-length : (s : ℕ) → s ≤ shownScale * (houseLimit - 1) → length (shownText (pos s)) ≤ departureRoom
 unfolding shownText
-above-length h most = omega (arith, hundredths-length h, decimal-length 6 (h / 100) (omega arith))
+above-length s most = omega (arith, shown-size-length s, decimal-length 6 (s / 1000) (omega arith))
 
-below-length : (h : ℕ) → h ≤ 10000 → length (shownText (negℤ (pos h))) ≤ departureRoom
+below-length : (s : ℕ) → s ≤ shownScale → length (shownText (negℤ (pos s))) ≤ departureRoom
 unfolding shownText
-below-length zero most = omega (arith, hundredths-length 0, decimal-length 0 0 (omega arith))
-below-length (suc h) most = omega (arith, hundredths-length (h + 1), decimal-length 2 ((h + 1) / 100) (omega arith))
+below-length zero most = omega (arith, shown-size-length 0, decimal-length 0 0 (omega arith))
+below-length (suc s) most = omega (arith, shown-size-length (s + 1), decimal-length 2 ((s + 1) / 1000) (omega arith))
 
 module _ {p a P H : ℕ} (within : InLimits p a P H) where
   shown-length : 0 < a → length (shownText (shownOf p a P H)) ≤ departureRoom
   unfolding shownOf
   shown-length seated =
-      let size = hundredthsOf (sizeOf p a P H) in
-      cond-both (λ (h : ℤ). length (shownText h) ≤ departureRoom) (isBelow p a P H) (negℤ (pos size)) (pos size)
+      let size = shownSize (sizeOf p a P H) in
+      cond-both (λ (s : ℤ). length (shownText s) ≤ departureRoom) (isBelow p a P H) (negℤ (pos size)) (pos size)
       (λ below. below-length size (largest-below p a P H seated (within .some-total) below))
       (λ above. above-length size (largest-above p a P H seated (within .some-total) (within .people-within) (within .house-limited)))
 

@@ -1,11 +1,11 @@
--- `departure::Departure::hundredths` is right because it rounds the size and then gives it the numerator's sign.
+-- `departure::Departure::shown` is right because it rounds the size and then gives it the numerator's sign.
 -- Assumes nothing.
 use borrow.Author.Needs.{needs}
 use Rattle.departure.specs.inner.Exact.{shown, size}
 use Rattle.departure.proofs.Rounding.{moderate-fits}
 use Rattle.wide.proofs.Signed.{read-back}
-use Rattle.departure.proofs.Departure.hundredths.Statement.{statement}
-use Rattle.departure.proofs.Departure.hundredths.Tie as tie
+use Rattle.departure.proofs.Departure.shown.Statement.{statement}
+use Rattle.departure.proofs.Departure.shown.Tie as tie
 
 magnitude-requires : tie.Need-magnitude-requires
 magnitude-requires c κs = search needs
@@ -39,5 +39,5 @@ returns c =
       read-back (told .before .args .self .numerator) (told .struct-told .given .0 .1),
     )
 
-pub hundredths-spec : {M : Type 1} → statement M
-hundredths-spec = tie.close (tie.spec magnitude-requires nearest-requires with-sign-requires returns)
+pub shown-spec : {M : Type 1} → statement M
+shown-spec = tie.close (tie.spec magnitude-requires nearest-requires with-sign-requires returns)
