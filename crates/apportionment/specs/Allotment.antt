@@ -13,6 +13,7 @@ use Rattle.apportionment.specs.Lists.{sum}
 use Rattle.apportionment.specs.Leximin.{leximinFor, gap}
 use Rattle.apportionment.specs.Divisor.{divisorSeats}
 use Rattle.apportionment.specs.Remainders.{remainderSeats}
+use Rattle.apportionment.specs.declared.DivisorMethod.{DivisorMethod}
 use Rattle.apportionment.specs.declared.Method.{Method}
 use Rattle.apportionment.specs.declared.Method.the-variants.{Leximin, Adams, Dean, Hill, Webster, Jefferson, Remainders}
 
@@ -78,11 +79,11 @@ openRefusal ps H = firstRefusal (problemChecks ps H ++ (seatsTooFew Leximin ps H
 -- The allotment of each method.
 unfoldable pub seatsOf : Method → (ps : List ℕ) (H : ℕ) → List ℕ
 seatsOf Leximin ps H = leximinFor ps H H
-seatsOf Adams ps H = divisorSeats Adams ps H
-seatsOf Dean ps H = divisorSeats Dean ps H
-seatsOf Hill ps H = divisorSeats Hill ps H
-seatsOf Webster ps H = divisorSeats Webster ps H
-seatsOf Jefferson ps H = divisorSeats Jefferson ps H
+seatsOf Adams ps H = divisorSeats DivisorMethod.Adams ps H
+seatsOf Dean ps H = divisorSeats DivisorMethod.Dean ps H
+seatsOf Hill ps H = divisorSeats DivisorMethod.Hill ps H
+seatsOf Webster ps H = divisorSeats DivisorMethod.Webster ps H
+seatsOf Jefferson ps H = divisorSeats DivisorMethod.Jefferson ps H
 seatsOf Remainders ps H = remainderSeats ps H
 
 -- The steps that allotting reports: the gap between L and H under leximin, 0 otherwise.

@@ -8,28 +8,24 @@ use Prim.Native.Nat.{ℕ, zero, suc, _+_, _-_, _*_}
 use lib.ListN.{length, getD, set, replicate}
 use Rattle.apportionment.specs.Lists.{firstPlace}
 use Rattle.apportionment.specs.Quantities.{Fraction, less}
-use Rattle.apportionment.specs.declared.Method.{Method}
-use Rattle.apportionment.specs.declared.Method.the-variants.{Leximin, Adams, Dean, Hill, Webster, Jefferson, Remainders}
+use Rattle.apportionment.specs.declared.DivisorMethod.{DivisorMethod}
+use Rattle.apportionment.specs.declared.DivisorMethod.the-variants.{Adams, Dean, Hill, Webster, Jefferson}
 
--- The signpost d(a); Hill's squared. The two methods that have none are given Jefferson's, which nothing uses.
-unfoldable pub signpost : Method → ℕ → Fraction
-signpost Leximin a = record { over = a + 1; under = 1 }
+-- The signpost d(a); Hill's squared.
+unfoldable pub signpost : DivisorMethod → ℕ → Fraction
 signpost Adams a = record { over = a; under = 1 }
 signpost Dean a = record { over = 2 * a * (a + 1); under = 2 * a + 1 }
 signpost Hill a = record { over = a * (a + 1); under = 1 }
 signpost Webster a = record { over = 2 * a + 1; under = 2 }
 signpost Jefferson a = record { over = a + 1; under = 1 }
-signpost Remainders a = record { over = a + 1; under = 1 }
 
 -- A population as the method's quotient counts it; Hill's squared.
-unfoldable pub weightOf : Method → ℕ → ℕ
-weightOf Leximin p = p
+unfoldable pub weightOf : DivisorMethod → ℕ → ℕ
 weightOf Adams p = p
 weightOf Dean p = p
 weightOf Hill p = p * p
 weightOf Webster p = p
 weightOf Jefferson p = p
-weightOf Remainders p = p
 
 -- The order of the claim of a state with weight w and a seats, for any signposts d: d(a) / w.
 unfoldable pub claimOf : (d : ℕ → Fraction) (w a : ℕ) → Fraction
@@ -53,5 +49,5 @@ claimsMet d w n zero = replicate n 0
 claimsMet d w n (suc h) = oneMore (claimsMet d w n h) (firstClaim d w n (claimsMet d w n h))
 
 -- The allotment of a divisor method.
-unfoldable pub divisorSeats : Method → (ps : List ℕ) (H : ℕ) → List ℕ
+unfoldable pub divisorSeats : DivisorMethod → (ps : List ℕ) (H : ℕ) → List ℕ
 divisorSeats m ps H = claimsMet (signpost m) (λ (i : ℕ). weightOf m (getD ps i 0)) (length ps) H

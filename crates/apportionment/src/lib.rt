@@ -18,6 +18,15 @@ pub enum Method {
     Remainders,
 }
 
+// The five of them that meet claims in order by signposts d(a).
+pub enum DivisorMethod {
+    Adams,
+    Dean,
+    Hill,
+    Webster,
+    Jefferson,
+}
+
 // How far a state's departure goes; None where the state has no seat.
 pub enum Mark {
     In,

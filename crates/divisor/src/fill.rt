@@ -1,7 +1,7 @@
 // The allotment: rounded seats, then one seat after another placed or withdrawn until the house is met.
 use crate::moves::make_moves;
 use crate::rounding::fill_rounded;
-use apportionment::Method;
+use apportionment::DivisorMethod;
 ghost use mathlib.Core.Path.{_≡_};
 ghost use Prim.Native.Nat.{_*_, _≤_};
 ghost use Rattle.apportionment.specs.Limits.{houseLimit, stateLimit};
@@ -45,7 +45,13 @@ fn near(states: usize, given: u64, house: u64, aim: u64) -> bool
 
 // Fills in rounded seats, and hands back how many they are: rounded for the house or, where that is far off, as it is by about half a
 // seat a state under Adams and Jefferson, for the house to aim at.
-fn fill_near(method: Method, populations: &[u64], total: u64, house: u64, seats: &mut [u64]) -> u64
+fn fill_near(
+    method: DivisorMethod,
+    populations: &[u64],
+    total: u64,
+    house: u64,
+    seats: &mut [u64],
+) -> u64
     requires { ⌜ Fillable (now populations) total house (now seats) ⌝ }
     ensures { λ r. ⌜ Started method (now (populations .entry)) (now (seats .exit)) r ⌝ }
 {
@@ -59,7 +65,13 @@ fn fill_near(method: Method, populations: &[u64], total: u64, house: u64, seats:
 
 // Fills in the seats that a divisor method gives: claims met in order, as many as the house has seats. What rounding left lacking or
 // too much is placed or withdrawn, a few seats whatever the house.
-pub fn fill_divisor(method: Method, populations: &[u64], total: u64, house: u64, seats: &mut [u64])
+pub fn fill_divisor(
+    method: DivisorMethod,
+    populations: &[u64],
+    total: u64,
+    house: u64,
+    seats: &mut [u64],
+)
     requires { ⌜ Fillable (now populations) total house (now seats) ⌝ }
     ensures { λ _. ⌜ now (seats .exit) ≡ divisorSeats method (now (populations .entry)) house ⌝ }
 {

@@ -3,7 +3,7 @@
 use crate::tournament::build;
 use crate::tournament::plant;
 use crate::tournament::replay;
-use apportionment::Method;
+use apportionment::DivisorMethod;
 use apportionment::STATE_LIMIT;
 use signposts::order::first_to_move;
 ghost use mathlib.Core.Path.{_≡_};
@@ -27,7 +27,13 @@ fn moved(up: bool, x: u64) -> u64
 }
 
 // The state at the root moves, and the tournament is replayed from its leaf.
-fn move_one(method: Method, up: bool, populations: &[u64], seats: &mut [u64], tree: &mut [usize])
+fn move_one(
+    method: DivisorMethod,
+    up: bool,
+    populations: &[u64],
+    seats: &mut [u64],
+    tree: &mut [usize],
+)
     requires { ⌜ Turn method up (now populations) (now seats) (now tree) ⌝ }
     ensures { λ _. ⌜ Turned method up (now (populations .entry)) (now (seats .entry)) (now (seats .exit)) (now (tree .exit)) ⌝ }
 {
@@ -38,7 +44,7 @@ fn move_one(method: Method, up: bool, populations: &[u64], seats: &mut [u64], tr
 
 // So many moves, one after the other.
 fn move_seats(
-    method: Method,
+    method: DivisorMethod,
     up: bool,
     populations: &[u64],
     times: u64,
@@ -57,7 +63,7 @@ fn move_seats(
 
 // So many moves by a tournament made in a list of two entries a state.
 fn play(
-    method: Method,
+    method: DivisorMethod,
     up: bool,
     populations: &[u64],
     times: u64,
@@ -73,7 +79,7 @@ fn play(
 }
 
 // The state that moves first, found by going through all, moves.
-fn scan_one(method: Method, up: bool, populations: &[u64], seats: &mut [u64])
+fn scan_one(method: DivisorMethod, up: bool, populations: &[u64], seats: &mut [u64])
     requires { ⌜ ClaimsFit (now populations) (now seats) ⌝ }
     ensures { λ _. ⌜ now (seats .exit) ≡ movedOnce method up (now (populations .entry)) (now (seats .entry)) ⌝ }
 {
@@ -82,7 +88,7 @@ fn scan_one(method: Method, up: bool, populations: &[u64], seats: &mut [u64])
 }
 
 // So many moves by scans.
-fn scan_moves(method: Method, up: bool, populations: &[u64], times: u64, seats: &mut [u64])
+fn scan_moves(method: DivisorMethod, up: bool, populations: &[u64], times: u64, seats: &mut [u64])
     requires { ⌜ Moves up (now populations) (now seats) times ⌝ }
     ensures { λ _. ⌜ now (seats .exit) ≡ movedSeats method up (now (populations .entry)) (now (seats .entry)) times ⌝ }
 {
@@ -102,7 +108,13 @@ fn few(times: u64, states: usize) -> bool {
 }
 
 // Places so many seats, or withdraws them.
-pub fn make_moves(method: Method, up: bool, populations: &[u64], times: u64, seats: &mut [u64])
+pub fn make_moves(
+    method: DivisorMethod,
+    up: bool,
+    populations: &[u64],
+    times: u64,
+    seats: &mut [u64],
+)
     requires { ⌜ Moves up (now populations) (now seats) times ⌝ }
     ensures { λ _. ⌜ now (seats .exit) ≡ movedSeats method up (now (populations .entry)) (now (seats .entry)) times ⌝ }
 {

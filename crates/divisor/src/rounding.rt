@@ -1,5 +1,5 @@
 // Rounding: every p A / P rounded by the method's own signposts, for a house A near the one asked for.
-use apportionment::Method;
+use apportionment::DivisorMethod;
 use signposts::Claim;
 use signposts::claim_less;
 use signposts::claim_of;
@@ -13,7 +13,7 @@ ghost use Rattle.signposts.specs.inner.Claims.{aimLimit};
 ghost use Rattle.divisor.specs.inner.Rounding.{ShareFits, Filled};
 
 // The seats of one state: the whole part of p A / P, and one more unless the claim there passes the average.
-fn rounded_of(method: Method, population: u64, total: u64, aim: u64) -> u64
+fn rounded_of(method: DivisorMethod, population: u64, total: u64, aim: u64) -> u64
     requires { ⌜ ShareFits population total aim ⌝ }
     ensures { λ r. ⌜ r ≡ rounded method total aim population ⌝ }
 {
@@ -31,7 +31,7 @@ fn rounded_of(method: Method, population: u64, total: u64, aim: u64) -> u64
 
 // Fills in the rounded seats, and hands back how many they are.
 pub fn fill_rounded(
-    method: Method,
+    method: DivisorMethod,
     populations: &[u64],
     total: u64,
     aim: u64,

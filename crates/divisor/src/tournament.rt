@@ -1,5 +1,5 @@
 // The tournament of states: a leaf for each, and at each inner place the one of its two that moves first. The root is the next to move.
-use apportionment::Method;
+use apportionment::DivisorMethod;
 use signposts::order::better_of;
 ghost use mathlib.Core.Path.{_≡_};
 ghost use Prim.Native.Nat.{_*_};
@@ -22,7 +22,7 @@ pub fn plant(states: usize, tree: &mut [usize])
 
 // Decides an inner place: of the two below it, the one that moves first.
 fn decide(
-    method: Method,
+    method: DivisorMethod,
     up: bool,
     populations: &[u64],
     seats: &[u64],
@@ -37,7 +37,13 @@ fn decide(
 }
 
 // Decides every inner place, from the last to the root.
-pub fn build(method: Method, up: bool, populations: &[u64], seats: &[u64], tree: &mut [usize])
+pub fn build(
+    method: DivisorMethod,
+    up: bool,
+    populations: &[u64],
+    seats: &[u64],
+    tree: &mut [usize],
+)
     requires { ⌜ ClaimsFit (now populations) (now seats) × Planted (length (now populations)) (length (now populations)) (now tree) ⌝ }
     ensures { λ _. ⌜ Played method up (now (populations .entry)) (now (seats .entry)) (now (tree .exit)) ⌝ }
 {
@@ -51,7 +57,7 @@ pub fn build(method: Method, up: bool, populations: &[u64], seats: &[u64], tree:
 // Decides anew the places on the way up from the leaf of a state whose seats have changed, with the winner so far in hand. The two places
 // that meet at k / 2 add up to 4 (k / 2) + 1.
 pub fn replay(
-    method: Method,
+    method: DivisorMethod,
     up: bool,
     populations: &[u64],
     seats: &[u64],

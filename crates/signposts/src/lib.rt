@@ -1,14 +1,16 @@
-// The layer of signposts: claims, the order d(a) / w of a state's next seat as a fraction of two words, their exact comparison, and which
-// state moves first by them.
+// The layer of signposts: the table that gives them; claims, which are the order d(a) / w of a state's next seat as a fraction of two
+// words; their exact comparison; and which state moves first by them.
 pub mod order;
+mod table;
 
-use apportionment::Method;
+use crate::table::signpost_of;
+use apportionment::DivisorMethod;
 ghost use mathlib.Core.Path.{_≡_};
 ghost use Prim.Native.Nat.{_*_, _≤_};
 ghost use lib.Dec.{ltb};
 ghost use Rattle.apportionment.specs.Limits.{sumLimit};
-ghost use Rattle.apportionment.specs.Divisor.{signpost, weightOf};
-ghost use Rattle.signposts.specs.inner.Claims.{held, claimFor, seatLimit, ClaimFits};
+ghost use Rattle.apportionment.specs.Divisor.{weightOf};
+ghost use Rattle.signposts.specs.inner.Claims.{claimFor, ClaimFits};
 
 // A claim d(a) / w; also a signpost d(a), the claim of a weight of 1.
 pub struct Claim {
@@ -16,48 +18,19 @@ pub struct Claim {
     pub under: u64,
 }
 
-// The signpost d(a) of a method, Hill's squared.
-fn signpost_of(method: Method, seats: u64) -> Claim
-    requires { ⌜ seats ≤ seatLimit ⌝ }
-    ensures { λ r. ⌜ r ≡ held (signpost method seats) ⌝ }
-{
-    match method {
-        Method::Adams => Claim {
-            over: seats,
-            under: 1,
-        },
-        Method::Dean => Claim {
-            over: 2 * seats * (seats + 1),
-            under: 2 * seats + 1,
-        },
-        Method::Hill => Claim {
-            over: seats * (seats + 1),
-            under: 1,
-        },
-        Method::Webster => Claim {
-            over: 2 * seats + 1,
-            under: 2,
-        },
-        _ => Claim {
-            over: seats + 1,
-            under: 1,
-        },
-    }
-}
-
 // A population as the method's quotient counts it; Hill's squared.
-pub fn weight_of(method: Method, population: u64) -> u64
+pub fn weight_of(method: DivisorMethod, population: u64) -> u64
     requires { ⌜ population ≤ sumLimit ⌝ }
     ensures { λ r. ⌜ r ≡ weightOf method population ⌝ }
 {
     match method {
-        Method::Hill => population * population,
+        DivisorMethod::Hill => population * population,
         _ => population,
     }
 }
 
 // The claim of a state with so many seats to one more.
-pub fn claim_of(method: Method, population: u64, seats: u64) -> Claim
+pub fn claim_of(method: DivisorMethod, population: u64, seats: u64) -> Claim
     requires { ⌜ ClaimFits population seats ⌝ }
     ensures { λ r. ⌜ r ≡ claimFor method population seats ⌝ }
 {

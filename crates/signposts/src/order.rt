@@ -1,7 +1,7 @@
 // Which of two states moves first: is given the next seat where seats are placed (`up`), gives one up where they are withdrawn.
 use crate::claim_less;
 use crate::claim_of;
-use apportionment::Method;
+use apportionment::DivisorMethod;
 ghost use mathlib.Core.Path.{_≡_};
 ghost use Prim.Native.Nat.{_<_};
 ghost use Rattle.claims.specs.inner.Order.{wantsBefore, givesUpBefore};
@@ -10,7 +10,13 @@ ghost use Rattle.claims.specs.inner.Tournament.{better};
 ghost use Rattle.signposts.specs.inner.Order.{ClaimsFit, BothClaimsFit, MovesFirst, movesBefore, noFewest};
 
 // State i's next claim comes before state j's.
-fn wants_before(method: Method, populations: &[u64], seats: &[u64], i: usize, j: usize) -> bool
+fn wants_before(
+    method: DivisorMethod,
+    populations: &[u64],
+    seats: &[u64],
+    i: usize,
+    j: usize,
+) -> bool
     requires { ⌜ BothClaimsFit (now populations) (now seats) i j ⌝ }
     ensures { λ r. ⌜ r ≡ wantsBefore (methodTest method (now (populations .entry))) (now (seats .entry)) i j ⌝ }
 {
@@ -20,7 +26,13 @@ fn wants_before(method: Method, populations: &[u64], seats: &[u64], i: usize, j:
 }
 
 // State i has a seat to give up, and state j has none or had its last seat no later.
-fn gives_up_before(method: Method, populations: &[u64], seats: &[u64], i: usize, j: usize) -> bool
+fn gives_up_before(
+    method: DivisorMethod,
+    populations: &[u64],
+    seats: &[u64],
+    i: usize,
+    j: usize,
+) -> bool
     requires { ⌜ BothClaimsFit (now populations) (now seats) i j ⌝ }
     ensures { λ r. ⌜ r ≡ givesUpBefore noFewest (methodTest method (now (populations .entry))) (now (seats .entry)) i j ⌝ }
 {
@@ -39,7 +51,7 @@ fn gives_up_before(method: Method, populations: &[u64], seats: &[u64], i: usize,
 
 // State i moves before state j.
 fn moves_before(
-    method: Method,
+    method: DivisorMethod,
     up: bool,
     populations: &[u64],
     seats: &[u64],
@@ -57,7 +69,7 @@ fn moves_before(
 
 // The one of two states that moves first: the earlier one, unless the later moves before it.
 pub fn better_of(
-    method: Method,
+    method: DivisorMethod,
     up: bool,
     populations: &[u64],
     seats: &[u64],
@@ -80,7 +92,7 @@ pub fn better_of(
 }
 
 // The state that moves first, by going through all.
-pub fn first_to_move(method: Method, up: bool, populations: &[u64], seats: &[u64]) -> usize
+pub fn first_to_move(method: DivisorMethod, up: bool, populations: &[u64], seats: &[u64]) -> usize
     requires { ⌜ ClaimsFit (now populations) (now seats) ⌝ }
     ensures { λ r. ⌜ MovesFirst method up (now (populations .entry)) (now (seats .entry)) r ⌝ }
 {

@@ -67,11 +67,15 @@ pub fn sound(random: &mut Random) -> Draft {
         house = random.from(1, house);
     }
     let style = random.below(5);
-    let method = random.pick(&METHODS);
+    let mut method = random.pick(&METHODS);
     if method == "remainders" && random.once_in(2) {
         (populations, house) = problem::equal_remainders(random);
     } else if random.once_in(8) {
         (populations, house) = problem::nearly_whole(random);
+    } else if random.once_in(8) {
+        let divisor;
+        (divisor, populations, house) = problem::equal_quotients(random);
+        method = divisor.name();
     }
     let mut draft = Draft::plain(
         method,

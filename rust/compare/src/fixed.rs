@@ -1,6 +1,6 @@
 //! Inputs that every run begins with: the document's examples, departures that are hard to round,
-//! the limits, the longest registers, and one register cut, changed, filled and thinned at every
-//! byte.
+//! the limits, equal quotients at the largest seats, the longest registers, and one register cut,
+//! changed, filled and thinned at every byte.
 
 use crate::damage::{self, Draft};
 use crate::random::Random;
@@ -15,6 +15,7 @@ pub fn fixed(seed: u64) -> Vec<Case> {
     cases.extend(departures());
     cases.extend(listed_departures());
     cases.extend(limits(random));
+    cases.extend(largest_seats());
     cases.extend(longest_walk());
     cases.extend(longest_registers(random));
     cases.extend(alike(random));
@@ -266,6 +267,43 @@ fn limits(random: &mut Random) -> Vec<Case> {
     cases
 }
 
+/// The last seat of the largest house, for which all states have the same quotient under a divisor
+/// method: as they are and with a voter more or less in the last state, and each of these turned
+/// round.
+fn largest_seats() -> Vec<Case> {
+    let b = HOUSE_LIMIT - 2;
+    // In each list the seats before the last add up to one less than the house: 1 and b, or under
+    // Hill 1, 8, 288 and 9,800.
+    let hill = [[1].repeat(7), vec![6, 6, 204, 204], [6_930].repeat(3)].concat();
+    let methods = [
+        (Method::Adams, vec![1, b]),
+        (Method::Dean, vec![4 * (2 * b + 1) / 3, 2 * b * (b + 1)]),
+        (Method::Hill, hill),
+        (Method::Webster, vec![3, 2 * b + 1]),
+        (Method::Jefferson, vec![2, b + 1]),
+    ];
+    let mut cases = Vec::new();
+    for (method, counts) in methods {
+        for unit in [1, (SUM_LIMIT - 1) / counts.iter().sum::<u64>()] {
+            for voters in [0, 1, 2] {
+                let mut populations: Vec<u64> = counts.iter().map(|count| unit * count).collect();
+                let last = populations.len() - 1;
+                populations[last] = populations[last] + voters - 1;
+                for _ in 0..2 {
+                    cases.push(Case::Allot {
+                        method: method as u64,
+                        house: HOUSE_LIMIT,
+                        room: populations.len(),
+                        populations: populations.clone(),
+                    });
+                    populations.reverse();
+                }
+            }
+        }
+    }
+    cases
+}
+
 /// One state has all voters but one for each other, and gives up a seat at every step: the longest
 /// walk we know, of as many steps as there are other states.
 fn longest_walk() -> Vec<Case> {
@@ -398,6 +436,39 @@ mod tests {
         assert_eq!(bytes.len(), 36_061);
         assert_eq!(reference::read(&bytes).unwrap().names.len(), STATES_LIMIT);
         assert_eq!(wide("remainders", 1_455).bytes().len(), BYTES_LIMIT);
+    }
+
+    #[test]
+    fn of_equal_quotients_the_first_state_has_the_last_seat() {
+        let allotted = |case: &Case| {
+            let Case::Allot {
+                method,
+                house,
+                populations,
+                ..
+            } = case
+            else {
+                panic!("not an allotment: {case:?}");
+            };
+            let mut seats = vec![0; populations.len()];
+            let method = Method::ALL[*method as usize];
+            reference::allot(method, *house, populations, &mut seats).unwrap();
+            seats
+        };
+        // In groups of six: the last state with a voter less, as many, a voter more, and each of
+        // these in both orders. The first has the seat where all are equal, whichever it is, and
+        // the others keep theirs.
+        for group in largest_seats().chunks(6) {
+            let one_less = |mut seats: Vec<u64>| {
+                seats[0] -= 1;
+                seats
+            };
+            let rising = one_less(allotted(&group[2]));
+            let mut falling = one_less(allotted(&group[3]));
+            falling.reverse();
+            assert_eq!(rising, falling);
+            assert_eq!(rising.iter().sum::<u64>(), HOUSE_LIMIT - 1);
+        }
     }
 
     #[test]

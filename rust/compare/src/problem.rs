@@ -3,7 +3,15 @@
 
 use crate::random::Random;
 use crate::MOST_STATES;
-use reference::{HOUSE_LIMIT, SHOWN_SCALE, SUM_LIMIT};
+use reference::{Method, HOUSE_LIMIT, SHOWN_SCALE, SUM_LIMIT};
+
+const DIVISOR_METHODS: [Method; 5] = [
+    Method::Adams,
+    Method::Dean,
+    Method::Hill,
+    Method::Webster,
+    Method::Jefferson,
+];
 
 /// A number of states: mostly few, at times many or the limit.
 pub fn states(random: &mut Random) -> u64 {
@@ -84,18 +92,27 @@ fn raise_to(random: &mut Random, list: &mut [u64], sum: u64) {
     list[at] += sum.saturating_sub(list.iter().sum());
 }
 
+/// Seats a and counts s with a(a + 1) = 2s²: states with such counts have equal quotients there
+/// under Hill.
+const HILL_SEATS: [(u64, u64); 6] = [
+    (1, 1),
+    (8, 6),
+    (49, 35),
+    (288, 204),
+    (1_681, 1_189),
+    (9_800, 6_930),
+];
+
 /// Populations at the signposts of one divisor method, so that quotients of different states are
 /// equal at different seats.
 fn signposts(random: &mut Random, n: u64) -> Vec<u64> {
-    // Counts s with a(a + 1) = 2s² at a of 1, 8, 49, 288: Hill's quotients are equal there.
-    const HILL: [u64; 4] = [1, 6, 35, 204];
     let row = random.below(5);
     let mut signpost = || {
         let a = random.from(1, 6);
         match row {
             0 => a,
             1 => 45_045 * 2 * a * (a + 1) / (2 * a + 1),
-            2 => random.pick(&HILL),
+            2 => random.pick(&HILL_SEATS[..4]).1,
             3 => 2 * a + 1,
             _ => 10 * a,
         }
@@ -104,6 +121,61 @@ fn signposts(random: &mut Random, n: u64) -> Vec<u64> {
     let most = SUM_LIMIT / list.iter().sum::<u64>();
     let factor = random.from(1, most.min(40));
     list.iter().map(|p| p * factor).collect()
+}
+
+/// A divisor method, seats that leave room in the largest house for one more each, and populations
+/// under which all states want that seat by the same quotient.
+fn same_quotient(random: &mut Random) -> (Method, Vec<u64>, Vec<u64>) {
+    let n = states(random).max(2);
+    let most_seats = HOUSE_LIMIT / n - 1;
+    let bits = random.from(1, 15);
+    let method = random.pick(&DIVISOR_METHODS);
+    // Under Dean each 2a + 1 is 1, 3, 5 or 15 times one odd number, and 15 times that number is a
+    // multiple of all.
+    let odd = 2 * random.from(1, (most_seats - 7) / 15) + 1;
+    let (seats, counts): (Vec<u64>, Vec<u64>) = (0..n)
+        .map(|_| {
+            let a = (1 + random.bits(bits)).min(most_seats);
+            match method {
+                Method::Adams => (a, a),
+                Method::Webster => (a, 2 * a + 1),
+                Method::Jefferson => (a, a + 1),
+                Method::Hill => *HILL_SEATS[..=random.below(6) as usize]
+                    .iter()
+                    .rfind(|(seats, _)| *seats <= most_seats)
+                    .expect("one seat"),
+                Method::Dean => {
+                    let times = random.pick(&[1, 3, 5, 15]);
+                    let a = (times * odd - 1) / 2;
+                    (a, 30 / times * a * (a + 1))
+                }
+                Method::Leximin | Method::Remainders => unreachable!("not a divisor method"),
+            }
+        })
+        .unzip();
+    let most_unit = (SUM_LIMIT - 1) / counts.iter().sum::<u64>();
+    let unit = match random.below(3) {
+        0 => 1,
+        1 => random.from(1, most_unit),
+        _ => most_unit,
+    };
+    (
+        method,
+        seats,
+        counts.iter().map(|count| unit * count).collect(),
+    )
+}
+
+/// A divisor method and states that want one more seat by the same quotient, some of which have
+/// it: those that come first in the register. At times one of them has a voter more or less.
+pub fn equal_quotients(random: &mut Random) -> (Method, Vec<u64>, u64) {
+    let (method, seats, mut populations) = same_quotient(random);
+    let house = seats.iter().sum::<u64>() + random.below(populations.len() as u64 + 1);
+    if random.once_in(2) {
+        let at = random.place(&populations);
+        populations[at] = (populations[at] + random.pick(&[0, 2]) - 1).max(1);
+    }
+    (method, populations, house)
 }
 
 /// States whose population is as near to one number of seats as to the next, and one more that
@@ -194,7 +266,26 @@ pub fn equal_remainders(random: &mut Random) -> (Vec<u64>, u64) {
 #[cfg(test)]
 mod tests {
     use super::*;
-    use reference::{allot, Method};
+    use reference::allot;
+
+    #[test]
+    fn of_equal_quotients_the_first_have_the_seats() {
+        let mut methods = Vec::new();
+        for input in 0..400 {
+            let (method, mut expected, populations) = same_quotient(&mut Random::new(1, input));
+            let n = populations.len();
+            let given = n / 2;
+            let house = expected.iter().sum::<u64>() + given as u64;
+            expected[..given].iter_mut().for_each(|seats| *seats += 1);
+            let mut seats = vec![0; n];
+            allot(method, house, &populations, &mut seats).unwrap();
+            assert_eq!(seats, expected, "{method:?} {populations:?}");
+            if !methods.contains(&method) {
+                methods.push(method);
+            }
+        }
+        assert_eq!(methods.len(), DIVISOR_METHODS.len());
+    }
 
     #[test]
     fn every_method_gives_nearly_whole_shares_their_seats() {

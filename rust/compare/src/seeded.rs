@@ -137,6 +137,11 @@ fn allot(random: &mut Random) -> Case {
             (populations, house) = problem::equal_remainders(random);
             6
         }
+        14..=19 => {
+            let method;
+            (method, populations, house) = problem::equal_quotients(random);
+            method as u64
+        }
         _ => random.below(7),
     };
     let n = populations.len();

@@ -1,17 +1,36 @@
--- `allot::fill_seats` meets its contract: each method's own function gives its seats, and the case found says which method it is.
+-- `allot::fill_seats` meets its contract: each way's own function gives the seats and the steps of that way, which is the method's.
 -- Assumes nothing.
-use Rattle.allot.proofs.Cases.{every, leximin-filled, remainders-filled, signposts-left}
+use mathlib.Core.Path.{refl}
 use borrow.Author.Needs.{needs}
+use Rattle.allot.specs.inner.Ways.{filled-as-found, leximin-seats-every-state}
 use Rattle.allot.proofs.fill_seats.Statement.{statement}
 use Rattle.allot.proofs.fill_seats.Tie as tie
+
+way-of-requires : tie.Need-way-of-requires
+way-of-requires c κs = search needs
 
 enum-told : tie.Need-enum-told
 enum-told c = search needs
 
 fill-leximin-requires : tie.Need-fill-leximin-requires
 fill-leximin-requires c κs =
-    let start = c .before .before .before .before .before in
-    (start .pre .0, start .pre .1 (every (start .args .method) (c .before .enum-told .given .1)))
+    let at-enum-told = c .before in
+    let at-way-of = at-enum-told .before .before in
+    let start = at-way-of .before .before .before in
+    let every = leximin-seats-every-state (start .args .method) (at-way-of .way-of .ensures) (at-enum-told .enum-told .given .1) in
+    (start .pre .0, start .pre .1 every)
+
+enum-known-way : tie.Need-enum-known-way
+enum-known-way c = search needs
+
+fill-divisor-requires : tie.Need-fill-divisor-requires
+fill-divisor-requires c κs = search needs
+
+enum-told-2 : tie.Need-enum-told-2
+enum-told-2 c = search needs
+
+fill-remainders-requires : tie.Need-fill-remainders-requires
+fill-remainders-requires c κs = search needs
 
 same-length : tie.Need-same-length
 same-length c = search needs
@@ -20,55 +39,52 @@ returns : tie.Need-returns
 returns c =
     let at-fill-leximin = c .before .before in
     let at-enum-told = at-fill-leximin .before .before in
-    let start = at-enum-told .before .before .before .before in
-    leximin-filled (start .args .method) _ _ (at-enum-told .enum-told .given .1)
+    let at-way-of = at-enum-told .before .before in
+    let start = at-way-of .before .before .before in
+    filled-as-found (start .args .method) _ _ (at-way-of .way-of .ensures) (at-enum-told .enum-told .given .1)
     (at-fill-leximin .fill-leximin .ensures .seats)
     (at-fill-leximin .fill-leximin .ensures .steps)
-
-enum-told-2 : tie.Need-enum-told-2
-enum-told-2 c = search needs
-
-fill-remainders-requires : tie.Need-fill-remainders-requires
-fill-remainders-requires c κs = search needs
 
 same-length-2 : tie.Need-same-length-2
 same-length-2 c = search needs
 
 returns-2 : tie.Need-returns-2
 returns-2 c =
-    let at-fill-remainders = c .before .before in
-    let at-enum-told2 = at-fill-remainders .before .before in
-    let start = at-enum-told2 .before .before .before .before .before in
-    remainders-filled (start .args .method) _ _ (at-enum-told2 .enum-told2 .given .1)
-    (at-fill-remainders .fill-remainders .ensures)
-
-fill-divisor-requires : tie.Need-fill-divisor-requires
-fill-divisor-requires c κs = search needs
+    let at-fill-divisor = c .before .before in
+    let at-way = at-fill-divisor .before .before .before in
+    let at-way-of = at-way .before .before in
+    let start = at-way-of .before .before .before in
+    filled-as-found (start .args .method) _ _ (at-way-of .way-of .ensures) (at-way .way .given .1)
+    (at-fill-divisor .fill-divisor .ensures)
+    refl
 
 same-length-3 : tie.Need-same-length-3
 same-length-3 c = search needs
 
 returns-3 : tie.Need-returns-3
 returns-3 c =
-    let at-fill-divisor = c .before .before in
-    let at-match2 = at-fill-divisor .before .before in
-    let at-match = at-match2 .before in
-    let start = at-match .before .before .before in
-    signposts-left (start .args .method) _ _ (at-match .match .keys2) (at-match2 .match2 .keys2)
-    (at-fill-divisor .fill-divisor .ensures)
+    let at-fill-remainders = c .before .before in
+    let at-enum-told2 = at-fill-remainders .before .before in
+    let at-way-of = at-enum-told2 .before .before in
+    let start = at-way-of .before .before .before in
+    filled-as-found (start .args .method) _ _ (at-way-of .way-of .ensures) (at-enum-told2 .enum-told2 .given .1)
+    (at-fill-remainders .fill-remainders .ensures)
+    refl
 
 pub fill-seats-spec : {M : Type 1} → statement M
 fill-seats-spec =
     tie.close
     (tie.spec
+    way-of-requires
     enum-told
     fill-leximin-requires
-    same-length
-    returns
+    enum-known-way
+    fill-divisor-requires
     enum-told-2
     fill-remainders-requires
+    same-length
+    returns
     same-length-2
     returns-2
-    fill-divisor-requires
     same-length-3
     returns-3)

@@ -12,8 +12,8 @@ use Rattle.apportionment.specs.Leximin.{leximinFor, gap}
 use Rattle.apportionment.specs.Divisor.{weightOf, divisorSeats}
 use Rattle.apportionment.specs.Remainders.{remainderSeats, remainderSeatsAt}
 use Rattle.apportionment.specs.Allotment.{seatsOf}
+use Rattle.apportionment.specs.declared.DivisorMethod.{DivisorMethod}
 use Rattle.apportionment.specs.declared.Method.{Method}
-use Rattle.apportionment.specs.declared.Method.the-variants.{Leximin, Adams, Dean, Hill, Webster, Jefferson, Remainders}
 use Rattle.claims.specs.inner.DivisorRounding.{signposts-increase, weight-positive}
 use Rattle.claims.specs.inner.DivisorSeats.{claims-met-standing, claims-met-sum}
 use Rattle.apportionment.specs.inner.Problem.{Problem}
@@ -21,6 +21,9 @@ use Rattle.claims.specs.inner.SizeClaims.{problem-positive}
 use Rattle.claims.specs.inner.LeximinSteps.{moved-standing, moved-total, last-step-leximin, total-at-gap}
 use Rattle.problem.specs.inner.Passed.{Allottable}
 use Rattle.remainders.specs.inner.House.{seats-sum-to-house}
+use Rattle.allot.specs.inner.Ways.{wayOf, seatsBy, filled-by-way, leximin-seats-every-state}
+use Rattle.allot.specs.declared.Way.{Way}
+use Rattle.allot.specs.declared.Way.the-variants.{Divisor}
 
 -- So many seats for so many states.
 pub record Shared (n H : ℕ) (seats : List ℕ) : Type 0 where
@@ -37,7 +40,7 @@ leximin-shared ps H ok fits =
       whole = moved-total positive fits (gap ps H) all ∙ total-at-gap ps H;
     })
 
-divisor-shared : (m : Method) (ps : List ℕ) (H : ℕ) → Problem ps (sum ps) H → Shared (length ps) H (divisorSeats m ps H)
+divisor-shared : (m : DivisorMethod) (ps : List ℕ) (H : ℕ) → Problem ps (sum ps) H → Shared (length ps) H (divisorSeats m ps H)
 unfolding divisorSeats
 divisor-shared m ps H ok =
     let weighs : (i : ℕ) → i < length ps → 0 < weightOf m (getD ps i 0) =
@@ -52,12 +55,13 @@ unfolding remainderSeats
 remainders-shared ps H ok =
     record { states = length-listOf (remainderSeatsAt ps H) (length ps); whole = seats-sum-to-house ok }
 
+way-shared : (way : Way) (ps : List ℕ) (H : ℕ) → Problem ps (sum ps) H → (way ≡ Way.Leximin → length ps ≤ H)
+    → Shared (length ps) H (seatsBy way ps H)
+way-shared Way.Leximin ps H ok fits = leximin-shared ps H ok (fits refl)
+way-shared (Divisor m) ps H ok fits = divisor-shared m ps H ok
+way-shared Way.Remainders ps H ok fits = remainders-shared ps H ok
+
 pub allotment-shared : (m : Method) (H : ℕ) (ps : List ℕ) (room : ℕ) → Allottable m H ps room → Shared (length ps) H (seatsOf m ps H)
-unfolding seatsOf
-allotment-shared Leximin H ps room ok = leximin-shared ps H (ok .problem) (ok .seatForEach refl)
-allotment-shared Adams H ps room ok = divisor-shared Adams ps H (ok .problem)
-allotment-shared Dean H ps room ok = divisor-shared Dean ps H (ok .problem)
-allotment-shared Hill H ps room ok = divisor-shared Hill ps H (ok .problem)
-allotment-shared Webster H ps room ok = divisor-shared Webster ps H (ok .problem)
-allotment-shared Jefferson H ps room ok = divisor-shared Jefferson ps H (ok .problem)
-allotment-shared Remainders H ps room ok = remainders-shared ps H (ok .problem)
+allotment-shared m H ps room ok =
+    rw (← (filled-by-way m ps H .seats))
+    (way-shared (wayOf m) ps H (ok .problem) (λ e. ok .seatForEach (leximin-seats-every-state m refl e)))

@@ -14,8 +14,8 @@ use Rattle.apportionment.specs.Lists.{sum}
 use Rattle.apportionment.specs.inner.Lists.{entry-at-most-sum, getD-map}
 use Rattle.apportionment.specs.Quantities.{Fraction, less}
 use Rattle.apportionment.specs.Divisor.{signpost, weightOf, claimOf}
-use Rattle.apportionment.specs.declared.Method.{Method}
-use Rattle.apportionment.specs.declared.Method.the-variants.{Leximin, Adams, Dean, Hill, Webster, Jefferson, Remainders}
+use Rattle.apportionment.specs.declared.DivisorMethod.{DivisorMethod}
+use Rattle.apportionment.specs.declared.DivisorMethod.the-variants.{Adams, Dean, Hill, Webster, Jefferson}
 use Rattle.claims.specs.inner.Order.{Standing}
 use Rattle.claims.specs.inner.Fractions.{less-of-products, not-less-of-products}
 use Rattle.claims.specs.inner.DivisorClaims.{Increasing, methodTest, averageClaim, rounded, roundedSeats}
@@ -36,10 +36,8 @@ square-grows : (x y : ℕ) → x < y → x * x < y * y
 square-grows x y h =
     let p : 0 < y = omega arith in omega (arith, mul-le-mul-left x (le-of-lt h), mul-lt-mul-of-pos-right h p)
 
--- All seven cases hold; leximin and largest remainders have Jefferson's signposts, which nothing uses.
-pub method-rounding : (m : Method) → Rounding (weightOf m) (signpost m)
+pub method-rounding : (m : DivisorMethod) → Rounding (weightOf m) (signpost m)
 unfolding weightOf signpost
-method-rounding Leximin = omega arith
 method-rounding Adams = omega arith
 method-rounding Dean = omega arith
 method-rounding Hill =
@@ -53,25 +51,24 @@ method-rounding Hill =
     }
 method-rounding Webster = omega arith
 method-rounding Jefferson = omega arith
-method-rounding Remainders = omega arith
 
-pub signposts-increase : (m : Method) → Increasing (signpost m)
+pub signposts-increase : (m : DivisorMethod) → Increasing (signpost m)
 signposts-increase m =
     record {
       positive = method-rounding m .positive;
       increases = λ a. less-of-products (signpost m a) (signpost m (suc a)) (method-rounding m .increases a);
     }
 
-pub weight-positive : (m : Method) (p : ℕ) → 0 < p → 0 < weightOf m p
+pub weight-positive : (m : DivisorMethod) (p : ℕ) → 0 < p → 0 < weightOf m p
 weight-positive m p h = omega (arith, method-rounding m .grows 0 p h)
 
 -- ---- one state's rounded seats
 
 -- The claim of a state of population p under a method.
-abbrev pub methodClaim : Method → (p a : ℕ) → Fraction
+abbrev pub methodClaim : DivisorMethod → (p a : ℕ) → Fraction
 methodClaim m p a = claimOf (signpost m) (weightOf m p) a
 
-module _ (m : Method) where
+module _ (m : DivisorMethod) where
   -- A method's weights keep the order of numbers and of products.
   weight-at-most : (x y : ℕ) → x ≤ y → weightOf m x ≤ weightOf m y
   weight-at-most x y h =
@@ -132,7 +129,7 @@ module _ (m : Method) where
 
 -- ---- all states' rounded seats
 
-pub length-rounded : (m : Method) (ps : List ℕ) (H : ℕ) → length (roundedSeats m ps H) ≡ length ps
+pub length-rounded : (m : DivisorMethod) (ps : List ℕ) (H : ℕ) → length (roundedSeats m ps H) ≡ length ps
 unfolding roundedSeats
 length-rounded m ps H = length-map ps (rounded m (sum ps) H)
 
@@ -141,7 +138,7 @@ module _ (ps : List ℕ) (some : 0 < length ps) (peopled : (i : ℕ) → i < len
   sum-positive = omega (arith, peopled 0 some, entry-at-most-sum ps 0)
 
   -- So the rounded seats stand, whatever their total.
-  pub rounded-standing : (m : Method) (H : ℕ) → Standing (length ps) (λ _. 0) (methodTest m ps) (roundedSeats m ps H)
+  pub rounded-standing : (m : DivisorMethod) (H : ℕ) → Standing (length ps) (λ _. 0) (methodTest m ps) (roundedSeats m ps H)
   unfolding roundedSeats
   rounded-standing m H =
       threshold-standing (signposts-increase m) (λ i h. weight-positive m (getD ps i 0) (peopled i h))

@@ -12,7 +12,7 @@ use Rattle.apportionment.specs.Lists.{sum}
 use Rattle.apportionment.specs.inner.Lists.{entry-at-most-sum, map-bounded}
 use Rattle.apportionment.specs.Quantities.{Fraction, less}
 use Rattle.apportionment.specs.Divisor.{weightOf, claimBefore, firstClaim, claimsMet, divisorSeats}
-use Rattle.apportionment.specs.declared.Method.{Method}
+use Rattle.apportionment.specs.declared.DivisorMethod.{DivisorMethod}
 use Rattle.claims.specs.inner.Order.{ClaimTest, ClaimOrder, Standing}
 use Rattle.claims.specs.inner.Order.{wantsBefore, firstUnmet, placed, lastMet, oneLess, withdrawn, withdrawnTimes}
 use Rattle.claims.specs.inner.Standing.{standing-unique, placed-standing, sum-placed}
@@ -60,7 +60,7 @@ module _ {d : ℕ → Fraction} {n : ℕ} {w : ℕ → ℕ} (inc : Increasing d)
 
 -- ---- a method's seats
 
-module _ (ps : List ℕ) (some : 0 < length ps) (peopled : (i : ℕ) → i < length ps → 0 < getD ps i 0) (m : Method) where
+module _ (ps : List ℕ) (some : 0 < length ps) (peopled : (i : ℕ) → i < length ps → 0 < getD ps i 0) (m : DivisorMethod) where
   method-weighs : (i : ℕ) → i < length ps → 0 < weightOf m (getD ps i 0)
   method-weighs i h = weight-positive m (getD ps i 0) (peopled i h)
 
@@ -80,13 +80,13 @@ rounded-choice-at-most : (b : Bool) (x : ℕ) → cond b x (x + 1) ≤ x + 1
 rounded-choice-at-most true x = omega arith
 rounded-choice-at-most false x = omega arith
 
-pub rounded-at-most : (m : Method) (P H p : ℕ) → p ≤ P → rounded m P H p ≤ H + 1
+pub rounded-at-most : (m : DivisorMethod) (P H p : ℕ) → p ≤ P → rounded m P H p ≤ H + 1
 unfolding rounded
 rounded-at-most m P H p h =
     let whole : p * H / P ≤ H = div-le-of-le-mul P (mul-le-mul-right H h) in
     omega (arith, rounded-choice-at-most (less (averageClaim m P H) (methodClaim m p (p * H / P))) (p * H / P))
 
-pub rounded-seats-at-most : (m : Method) (ps : List ℕ) (H i : ℕ) → getD (roundedSeats m ps H) i 0 ≤ H + 1
+pub rounded-seats-at-most : (m : DivisorMethod) (ps : List ℕ) (H i : ℕ) → getD (roundedSeats m ps H) i 0 ≤ H + 1
 unfolding roundedSeats
 rounded-seats-at-most m ps H =
     map-bounded (rounded m (sum ps) H) ps (H + 1) (λ j. rounded-at-most m (sum ps) H (getD ps j 0) (entry-at-most-sum ps j))

@@ -13,7 +13,7 @@ use Rattle.apportionment.specs.Lists.{sum}
 use Rattle.apportionment.specs.inner.Lists.{entry-at-most-sum}
 use Rattle.apportionment.specs.inner.Problem.{States}
 use Rattle.apportionment.specs.Divisor.{oneMore}
-use Rattle.apportionment.specs.declared.Method.{Method}
+use Rattle.apportionment.specs.declared.DivisorMethod.{DivisorMethod}
 use Rattle.claims.specs.inner.Order.{firstUnmet, placed, placedTimes}
 use Rattle.claims.specs.inner.Order.{lastMet, oneLess, withdrawn, withdrawnTimes}
 use Rattle.claims.specs.inner.Standing.{length-placedTimes, sum-placedTimes, length-withdrawnTimes}
@@ -33,57 +33,58 @@ movedBy true a = a + 1
 movedBy false a = a - 1
 
 -- The seats after one move, of the state that comes first, and after so many.
-unfoldable pub movedOnce : Method → Bool → (ps ss : List ℕ) → List ℕ
+unfoldable pub movedOnce : DivisorMethod → Bool → (ps ss : List ℕ) → List ℕ
 movedOnce m true ps ss = placed (methodTest m ps) (length ps) ss
 movedOnce m false ps ss = withdrawn noFewest (methodTest m ps) (length ps) ss
 
-unfoldable pub movedSeats : Method → Bool → (ps ss : List ℕ) → ℕ → List ℕ
+unfoldable pub movedSeats : DivisorMethod → Bool → (ps ss : List ℕ) → ℕ → List ℕ
 movedSeats m true ps ss times = placedTimes (methodTest m ps) (length ps) ss times
 movedSeats m false ps ss times = withdrawnTimes noFewest (methodTest m ps) (length ps) ss times
 
 -- One place of a tournament decided.
-abbrev pub Decided : Method → Bool → (ps ss : List ℕ) (k : ℕ) (tree after : List ℕ) → Type 0
+abbrev pub Decided : DivisorMethod → Bool → (ps ss : List ℕ) (k : ℕ) (tree after : List ℕ) → Type 0
 Decided m up ps ss k tree after = after ≡ decidedAt (movesBefore m up ps ss) k tree
 
 -- A tournament of the states as they move; and one that is due for a replay from one state's leaf.
-abbrev pub Played : Method → Bool → (ps ss tree : List ℕ) → Type 0
+abbrev pub Played : DivisorMethod → Bool → (ps ss tree : List ℕ) → Type 0
 Played m up ps ss tree = Winners (movesBefore m up ps ss) (length ps) tree
 
-abbrev pub Replays : Method → Bool → (ps ss : List ℕ) → ℕ → List ℕ → Type 0
+abbrev pub Replays : DivisorMethod → Bool → (ps ss : List ℕ) → ℕ → List ℕ → Type 0
 Replays m up ps ss place tree =
     (place < length ps) × Replaying (movesBefore m up ps ss) (length ps) ((length ps + place) / 2) tree
 
 -- ---- one move
 
-moves-pass : (m : Method) (up : Bool) {ps : List ℕ} (ss : List ℕ) {P : ℕ} → States ps P → Passes (length ps) (movesBefore m up ps ss)
+moves-pass : (m : DivisorMethod) (up : Bool) {ps : List ℕ} (ss : List ℕ) {P : ℕ} → States ps P → Passes (length ps) (movesBefore m up ps ss)
 unfolding movesBefore
 moves-pass m true {ps} ss k = wants-passes (method-order ps (k .someState) (k .peopled) m) ss (λ i hi. zero-le)
 moves-pass m false {ps} ss k = gives-passes (method-order ps (k .someState) (k .peopled) m) ss
 
-moves-agree : (m : Method) (up : Bool) (ps ss : List ℕ) (j v : ℕ) → AgreeBut j (movesBefore m up ps ss) (movesBefore m up ps (set ss j v))
+moves-agree : (m : DivisorMethod) (up : Bool) (ps ss : List ℕ) (j v : ℕ)
+    → AgreeBut j (movesBefore m up ps ss) (movesBefore m up ps (set ss j v))
 unfolding movesBefore
 moves-agree m true ps ss j v = wants-agree (methodTest m ps) ss j v
 moves-agree m false ps ss j v = gives-agree (methodTest m ps) ss j v noFewest
 
-pub moved-once : (m : Method) (up : Bool) (ps ss : List ℕ) {i v : ℕ} → i ≡ firstToMove m up ps ss
+pub moved-once : (m : DivisorMethod) (up : Bool) (ps ss : List ℕ) {i v : ℕ} → i ≡ firstToMove m up ps ss
     → v ≡ movedBy up (getD ss i 0) → set ss i v ≡ movedOnce m up ps ss
 unfolding movedOnce movesBefore movedBy placed oneMore firstUnmet withdrawn oneLess lastMet
 moved-once m true ps ss first e = rw (e, first)
 moved-once m false ps ss first e = rw (e, first)
 
 -- A move can be made: the claims fit before and after it.
-pub record Turn (m : Method) (up : Bool) (ps ss tree : List ℕ) : Type 0 where
+pub record Turn (m : DivisorMethod) (up : Bool) (ps ss tree : List ℕ) : Type 0 where
   pub states : States ps (sum ps)
   pub all : ClaimsFit ps ss
   pub after : ClaimsFit ps (movedOnce m up ps ss)
   pub played : Played m up ps ss tree
 
 -- It was made.
-pub record Turned (m : Method) (up : Bool) (ps ss after tree : List ℕ) : Type 0 where
+pub record Turned (m : DivisorMethod) (up : Bool) (ps ss after tree : List ℕ) : Type 0 where
   pub seats : after ≡ movedOnce m up ps ss
   pub played : Played m up ps after tree
 
-module _ {m : Method} {up : Bool} {ps ss tree : List ℕ} (k : Turn m up ps ss tree) where
+module _ {m : DivisorMethod} {up : Bool} {ps ss tree : List ℕ} (k : Turn m up ps ss tree) where
   pub root-lt : getD tree 1 0 < length ps
   root-lt = winner-lt (k .played) 1 (omega arith) (omega (arith, k .all .someState))
 
@@ -105,23 +106,23 @@ pub record Moves (up : Bool) (ps ss : List ℕ) (times : ℕ) : Type 0 where
   pub all : ClaimsFit ps ss
   pub room : up ≡ true → sum ss + times ≤ houseLimit
 
-pub moved-none : (m : Method) (up : Bool) (ps ss : List ℕ) → movedSeats m up ps ss 0 ≡ ss
+pub moved-none : (m : DivisorMethod) (up : Bool) (ps ss : List ℕ) → movedSeats m up ps ss 0 ≡ ss
 unfolding movedSeats placedTimes withdrawnTimes
 moved-none m true ps ss = refl
 moved-none m false ps ss = refl
 
-pub moved-more : (m : Method) (up : Bool) (ps before : List ℕ) (done : ℕ) {ss after : List ℕ} → ss ≡ movedSeats m up ps before done
+pub moved-more : (m : DivisorMethod) (up : Bool) (ps before : List ℕ) (done : ℕ) {ss after : List ℕ} → ss ≡ movedSeats m up ps before done
     → after ≡ movedOnce m up ps ss → after ≡ movedSeats m up ps before (done + 1)
 unfolding movedOnce movedSeats placedTimes withdrawnTimes
 moved-more m true ps before done so-far once = once ∙ rw (so-far, add-one done)
 moved-more m false ps before done so-far once = once ∙ rw (so-far, add-one done)
 
-moved-length : (m : Method) (up : Bool) (ps before : List ℕ) (done : ℕ) → length (movedSeats m up ps before done) ≡ length before
+moved-length : (m : DivisorMethod) (up : Bool) (ps before : List ℕ) (done : ℕ) → length (movedSeats m up ps before done) ≡ length before
 unfolding movedSeats
 moved-length m true ps before done = length-placedTimes (length ps) (methodTest m ps) before done
 moved-length m false ps before done = length-withdrawnTimes (length ps) noFewest (methodTest m ps) before done
 
-moved-few : (m : Method) (up : Bool) {ps before : List ℕ} {times : ℕ} → Moves up ps before times → (done : ℕ) → done ≤ times
+moved-few : (m : DivisorMethod) (up : Bool) {ps before : List ℕ} {times : ℕ} → Moves up ps before times → (done : ℕ) → done ≤ times
     → (i : ℕ) → i < length ps → getD (movedSeats m up ps before done) i 0 ≤ seatLimit
 unfolding movedSeats
 moved-few m true {ps} {before} k done h i l =
@@ -135,7 +136,7 @@ moved-few m false {ps} {before} k done h i l =
     omega (arith, k .all .each i l .seatsWithin, withdrawn-at-most noFewest (methodTest m ps) (length ps) before done i)
 
 -- The seats after some of the moves are within bounds.
-pub moved-fits : (m : Method) {up : Bool} {ps before : List ℕ} {times : ℕ} → Moves up ps before times
+pub moved-fits : (m : DivisorMethod) {up : Bool} {ps before : List ℕ} {times : ℕ} → Moves up ps before times
     → (done : ℕ) → done ≤ times → {ss : List ℕ} → ss ≡ movedSeats m up ps before done → ClaimsFit ps ss
 moved-fits m {up} {ps} {before} k done h so-far =
     record {
@@ -147,11 +148,11 @@ moved-fits m {up} {ps} {before} k done h so-far =
 -- ---- by a tournament
 
 -- After so many moves.
-pub record Moving (m : Method) (up : Bool) (ps before : List ℕ) (done : ℕ) (ss tree : List ℕ) : Type 0 where
+pub record Moving (m : DivisorMethod) (up : Bool) (ps before : List ℕ) (done : ℕ) (ss tree : List ℕ) : Type 0 where
   pub seats : ss ≡ movedSeats m up ps before done
   pub played : Played m up ps ss tree
 
-module _ {m : Method} {up : Bool} {ps before : List ℕ} where
+module _ {m : DivisorMethod} {up : Bool} {ps before : List ℕ} where
   pub moving-none : {tree : List ℕ} → Played m up ps before tree → Moving m up ps before 0 before tree
   moving-none played = record { seats = sym (moved-none m up ps before); played = played }
 

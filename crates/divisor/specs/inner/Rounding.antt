@@ -11,7 +11,7 @@ use Rattle.apportionment.specs.Limits.{sumLimit}
 use Rattle.apportionment.specs.Lists.{sum, listOf}
 use Rattle.apportionment.specs.Quantities.{less}
 use Rattle.apportionment.specs.Divisor.{weightOf}
-use Rattle.apportionment.specs.declared.Method.{Method}
+use Rattle.apportionment.specs.declared.DivisorMethod.{DivisorMethod}
 use Rattle.apportionment.specs.inner.Lists.{map-is-listOf, sum-listOf-none, sum-listOf-more}
 use Rattle.apportionment.specs.inner.Filling.{FilledTo, fill-starts, fill-goes-on, fill-ends}
 use Rattle.apportionment.specs.inner.Problem.{States, sum-above-zero, entry-at-most-total}
@@ -41,7 +41,7 @@ pub whole-claim-fits : {p P A : ℕ} → ShareFits p P A → ClaimFits p (p * A 
 whole-claim-fits k = record { peopleWithin = omega arith; seatsWithin = omega (arith, whole-at-most k, k .aimWithin) }
 
 -- The test against the average, in machine words, says which seats are the rounded ones.
-pub rounded-by-test : (m : Method) (P A p : ℕ) {over under : ℕ} {claim : Claim} {found t : Bool}
+pub rounded-by-test : (m : DivisorMethod) (P A p : ℕ) {over under : ℕ} {claim : Claim} {found t : Bool}
     → over ≡ weightOf m A → under ≡ weightOf m P → claim ≡ claimFor m p (p * A / P)
     → found ≡ lessClaim (record { over = over; under = under }) claim → found ≡ t
     → cond t (p * A / P) (p * A / P + 1) ≡ rounded m P A p
@@ -51,24 +51,24 @@ rounded-by-test m P A p e f g test answer = rw (← answer, test, e, f, g)
 -- ---- all states
 
 -- The rounded seats of the state at each place.
-abbrev pub roundedAt : Method → (P A : ℕ) (ps : List ℕ) (i : ℕ) → ℕ
+abbrev pub roundedAt : DivisorMethod → (P A : ℕ) (ps : List ℕ) (i : ℕ) → ℕ
 roundedAt m P A ps i = rounded m P A (getD ps i 0)
 
 -- What filling in the rounded seats leaves and hands back.
-pub record Filled (m : Method) (ps : List ℕ) (A : ℕ) (ss : List ℕ) (given : ℕ) : Type 0 where
+pub record Filled (m : DivisorMethod) (ps : List ℕ) (A : ℕ) (ss : List ℕ) (given : ℕ) : Type 0 where
   pub seats : ss ≡ roundedSeats m ps A
   pub total : given ≡ sum (roundedSeats m ps A)
 
-pub filled-length : {m : Method} {ps : List ℕ} {A : ℕ} {ss : List ℕ} {given : ℕ} → Filled m ps A ss given → length ss ≡ length ps
+pub filled-length : {m : DivisorMethod} {ps : List ℕ} {A : ℕ} {ss : List ℕ} {given : ℕ} → Filled m ps A ss given → length ss ≡ length ps
 filled-length {m} {ps} {A} f = ap length (f .seats) ∙ length-rounded m ps A
 
 -- The first i states have their rounded seats, which are `given` in all.
-pub record Filling (m : Method) (P A : ℕ) (ps : List ℕ) (i : ℕ) (ss : List ℕ) (given : ℕ) : Type 0 where
+pub record Filling (m : DivisorMethod) (P A : ℕ) (ps : List ℕ) (i : ℕ) (ss : List ℕ) (given : ℕ) : Type 0 where
   pub done : FilledTo (roundedAt m P A ps) (length ps) i ss
   pub total : given ≡ sum (listOf (roundedAt m P A ps) i)
   pub small : given ≤ i * seatLimit
 
-module _ (m : Method) {P A : ℕ} {ps : List ℕ} (k : States ps P) (aim : A ≤ aimLimit) where
+module _ (m : DivisorMethod) {P A : ℕ} {ps : List ℕ} (k : States ps P) (aim : A ≤ aimLimit) where
   pub filling-none : (ss : List ℕ) → length ss ≡ length ps → Filling m P A ps 0 ss 0
   filling-none ss long =
       record { done = fill-starts _ _ ss long; total = sym (sum-listOf-none (roundedAt m P A ps)); small = omega arith }

@@ -10,7 +10,7 @@ use Rattle.apportionment.specs.Lists.{sum, listOf}
 use Rattle.apportionment.specs.inner.Lists.{sum-listOf-zero}
 use Rattle.apportionment.specs.inner.Problem.{States, Fillable, entry-at-most-total}
 use Rattle.apportionment.specs.Divisor.{divisorSeats}
-use Rattle.apportionment.specs.declared.Method.{Method}
+use Rattle.apportionment.specs.declared.DivisorMethod.{DivisorMethod}
 use Rattle.claims.specs.inner.Order.{ClaimOrder, Standing}
 use Rattle.claims.specs.inner.DivisorClaims.{methodTest}
 use Rattle.claims.specs.inner.Standing.{sum-placedTimes, placedTimes-standing, sum-withdrawnTimes, withdrawnTimes-standing}
@@ -22,12 +22,12 @@ use Rattle.divisor.specs.inner.Moves.{Moves, movedSeats}
 use Rattle.divisor.specs.inner.Rounding.{Filled, filled-length}
 
 -- Rounded seats, for whichever house, and how many they are.
-pub record Started (m : Method) (ps ss : List ℕ) (given : ℕ) : Type 0 where
+pub record Started (m : DivisorMethod) (ps ss : List ℕ) (given : ℕ) : Type 0 where
   pub aim : ℕ
   pub aimFits : aim ≤ aimLimit
   pub filled : Filled m ps aim ss given
 
-module _ {m : Method} {ps before ss : List ℕ} {P H given : ℕ} (k : Fillable ps P H before) (start : Started m ps ss given) where
+module _ {m : DivisorMethod} {ps before ss : List ℕ} {P H given : ℕ} (k : Fillable ps P H before) (start : Started m ps ss given) where
   start-sum : sum ss ≡ given
   start-sum = ap sum (start .filled .seats) ∙ sym (start .filled .total)
 

@@ -12,6 +12,11 @@ signpost-of-requires c κs = search needs
 weight-of-requires : tie.Need-weight-of-requires
 weight-of-requires c κs = search needs
 
+-- What is returned comes first, so that a wrong program is refused for its result.
+returns : tie.Need-returns
+unfolding claimFor claimOf held
+returns c = rw (c .before .weight-of .ensures, c .before .before .signpost-of .ensures)
+
 mul-under : tie.Need-mul-under
 unfolding held
 mul-under c =
@@ -19,10 +24,6 @@ mul-under c =
     let signpost-of = c .before .before .signpost-of in
     let start = c .before .before .before in
     rw (weight-of .ensures, signpost-of .ensures) (under-fits (start .args .method) (start .pre))
-
-returns : tie.Need-returns
-unfolding claimFor claimOf held
-returns c = rw (c .before .weight-of .ensures, c .before .before .signpost-of .ensures)
 
 pub claim-of-spec : {M : Type 1} → statement M
 claim-of-spec = tie.close (tie.spec signpost-of-requires weight-of-requires mul-under returns)

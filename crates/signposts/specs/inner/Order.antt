@@ -7,7 +7,7 @@ use Prim.Native.Nat.{ℕ, _-_, _<_, _≤_}
 use native.Mathlib.Omega.{arith}
 use lib.ListN.{length, getD}
 use Rattle.apportionment.specs.Lists.{firstPlace}
-use Rattle.apportionment.specs.declared.Method.{Method}
+use Rattle.apportionment.specs.declared.DivisorMethod.{DivisorMethod}
 use Rattle.claims.specs.inner.Order.{wantsBefore}
 use Rattle.claims.specs.inner.Order.{givesUpBefore}
 use Rattle.claims.specs.inner.StandingOrder.{firstPlace-le}
@@ -35,19 +35,19 @@ abbrev pub noFewest : ℕ → ℕ
 noFewest i = 0
 
 -- State i moves before state j.
-unfoldable pub movesBefore : Method → Bool → (ps ss : List ℕ) → ℕ → ℕ → Bool
+unfoldable pub movesBefore : DivisorMethod → Bool → (ps ss : List ℕ) → ℕ → ℕ → Bool
 movesBefore m true ps ss = wantsBefore (methodTest m ps) ss
 movesBefore m false ps ss = givesUpBefore noFewest (methodTest m ps) ss
 
 -- The state that moves first.
-abbrev pub firstToMove : Method → Bool → (ps ss : List ℕ) → ℕ
+abbrev pub firstToMove : DivisorMethod → Bool → (ps ss : List ℕ) → ℕ
 firstToMove m up ps ss = firstPlace (movesBefore m up ps ss) (length ps - 1)
 
-pub first-so-far-lt : (m : Method) (up : Bool) {ps ss : List ℕ} {i best : ℕ} → ClaimsFit ps ss → i ≤ length ps
+pub first-so-far-lt : (m : DivisorMethod) (up : Bool) {ps ss : List ℕ} {i best : ℕ} → ClaimsFit ps ss → i ≤ length ps
     → best ≡ firstPlace (movesBefore m up ps ss) (i - 1) → best < length ps
 first-so-far-lt m up {ps} {ss} {i} k h e = omega (arith, e, k .someState, firstPlace-le (movesBefore m up ps ss) (i - 1))
 
 -- A state is found, the one that moves first.
-pub record MovesFirst (m : Method) (up : Bool) (ps ss : List ℕ) (i : ℕ) : Type 0 where
+pub record MovesFirst (m : DivisorMethod) (up : Bool) (ps ss : List ℕ) (i : ℕ) : Type 0 where
   pub first : i ≡ firstToMove m up ps ss
   pub within : i < length ps

@@ -1,2 +1,0 @@
--- What the proofs of allotting share.
-pub mod Cases
