@@ -11,7 +11,7 @@
 
 #define STACK_SIZE ((size_t)1 << 20)
 #define PAINT 0xA5
-#define METHODS 7
+#define METHODS 8
 
 static uint8_t *stack;
 
@@ -30,7 +30,7 @@ static uint64_t accepted;
 static void count(uint64_t refusal) { accepted += refusal == 0; }
 
 static void make_inputs(void) {
-    static const char *const methods[METHODS] = {"leximin", "adams", "dean", "hill", "webster", "jefferson", "remainders"};
+    static const char *const methods[METHODS] = {"leximin", "adams", "dean", "hill", "webster", "jefferson", "remainders", "quota"};
     for (size_t i = 0; i < DESK_STATES_LIMIT; i++) {
         equal[i] = 5000000;
         giant[i] = 1;

@@ -30,15 +30,17 @@ extern "C" {
    thread with 256 KiB is safe for any of them. Measured on x86-64 Linux by painting the stack, at the
    limits and on refusals; the gate measures it again (.ci/stack.c). Nothing else is allocated. */
 #define DESK_READ_STACK (46 * 1024)
-#define DESK_ALLOT_STACK (20 * 1024)
+#define DESK_ALLOT_STACK (112 * 1024)
 #define DESK_OPEN_STACK (39 * 1024)
 #define DESK_STEP_STACK (64 * 1024)
 #define DESK_DEPARTURE_STACK 128
-#define DESK_LISTING_STACK (104 * 1024)
+#define DESK_LISTING_STACK (200 * 1024)
 #define DESK_NAME_STACK (30 * 1024)
 
 /* The methods. Under largest remainders, of equal remainders the larger population has the seat, and
-   of equal populations too the earlier state. */
+   of equal populations too the earlier state. The quota method, by Balinski and Young, gives seat after
+   seat as Jefferson's does, but only to states below their share of the seats so far, that seat included:
+   each ends with its share of the house rounded down or up. */
 enum {
     DESK_LEXIMIN = 0,
     DESK_ADAMS = 1,
@@ -46,7 +48,8 @@ enum {
     DESK_HILL = 3,
     DESK_WEBSTER = 4,
     DESK_JEFFERSON = 5,
-    DESK_REMAINDERS = 6
+    DESK_REMAINDERS = 6,
+    DESK_QUOTA = 7
 };
 
 /* The marks: a size up to 10 per cent, up to 15, beyond, and a state without seats. */

@@ -7,6 +7,7 @@ use divisor::fill::fill_divisor;
 use leximin::settle::fill_leximin;
 use problem::allot_refusal;
 use problem::total_of;
+use quota::fill_quota;
 use remainders::fill_remainders;
 ghost use mathlib.Core.Path.{_≡_};
 ghost use mathlib.Core.Bool.{true};
@@ -29,6 +30,7 @@ pub enum Way {
     Leximin,
     Divisor(DivisorMethod),
     Remainders,
+    Quota,
 }
 
 // The way of a method.
@@ -43,6 +45,7 @@ fn way_of(method: Method) -> Way
         Method::Webster => Way::Divisor(DivisorMethod::Webster),
         Method::Jefferson => Way::Divisor(DivisorMethod::Jefferson),
         Method::Remainders => Way::Remainders,
+        Method::Quota => Way::Quota,
     }
 }
 
@@ -60,6 +63,10 @@ fn fill_seats(method: Method, populations: &[u64], total: u64, house: u64, seats
         }
         Way::Remainders => {
             fill_remainders(populations, total, house, seats);
+            0
+        }
+        Way::Quota => {
+            fill_quota(populations, total, house, seats);
             0
         }
     }

@@ -4,7 +4,7 @@ use mathlib.Core.Path.{_≡_, refl}
 use mathlib.Core.Bool.{Bool, true, _&&_}
 use mathlib.Core.List.{List, [], _∷_}
 use Prim.Native.Nat.{ℕ}
-use Rattle.apportionment.specs.Lists.{sum, sameList, firstPlace, countBelow, listOf}
+use Rattle.apportionment.specs.Lists.{sum, sameList, firstPlace, among, countBelow, listOf}
 use Rattle.apportionment.specs.Text.{bytesOf, decimal, decimalWith}
 use Rattle.apportionment.specs.Quantities.{less, atMost, distance, sizeOf, isBelow, nearestWhole, shownSize, shownOf}
 use Rattle.apportionment.specs.Quantities.{shownSizeText, shownText, markOf, markText}
@@ -12,11 +12,12 @@ use Rattle.apportionment.specs.Leximin.{sizesOf, insert, largestFirst, l
 use Rattle.apportionment.specs.Leximin.{allotments, firstOf, firstOfAll, leximinFor}
 use Rattle.apportionment.specs.Divisor.{signpost, weightOf, claimOf, claimBefore, firstClaim, oneMore, claimsMet, divisorSeats}
 use Rattle.apportionment.specs.Remainders.{wholePart, remainder, servedBefore, seatsLeft, rank, remainderSeatsAt, remainderSeats}
+use Rattle.apportionment.specs.Quota.{able, quotient, quotientBefore, seatGoesTo, quotaSeats}
 use Rattle.apportionment.specs.Allotment.{seatsOf}
 use Rattle.apportionment.specs.declared.Mark.{Mark}
 use Rattle.apportionment.specs.declared.Mark.the-variants.{In, High, Over}
 use Rattle.apportionment.specs.declared.Method.{Method}
-use Rattle.apportionment.specs.declared.Method.the-variants.{Leximin, Adams, Webster, Remainders}
+use Rattle.apportionment.specs.declared.Method.the-variants.{Leximin, Adams, Webster, Remainders, Quota}
 
 -- An example: a method allots these seats; or one state's departure is shown and marked so.
 pub data Example : Type 0 where
@@ -47,6 +48,8 @@ starred =
     ∷ allots Webster (1 ∷ 99 ∷ []) 2 (0 ∷ 2 ∷ [])
     ∷ allots Adams (1 ∷ 99 ∷ []) 2 (1 ∷ 1 ∷ [])
     ∷ allots Remainders (1 ∷ 3 ∷ []) 2 (0 ∷ 2 ∷ [])
+    ∷ allots Quota (1 ∷ 1 ∷ 4 ∷ []) 3 (1 ∷ 0 ∷ 2 ∷ [])
+    ∷ allots Quota (5117 ∷ 4400 ∷ 162 ∷ 161 ∷ 160 ∷ []) 100 (52 ∷ 44 ∷ 2 ∷ 1 ∷ 1 ∷ [])
     ∷ shows 11 1 20 2 (bytesOf "10.000") In
     ∷ shows 1101 1 2000 2 (bytesOf "10.100") High
     ∷ shows 115004 1 200000 2 (bytesOf "15.004") Over
@@ -58,5 +61,5 @@ unfolding starred allHold holds seatsOf sameList sum decimal decimalWith less at
     shownSize shownOf shownSizeText shownText markOf markText sizesOf insert largestFirst listLess moreAtFirst sizeList
     chosenBefore withFirst allotments firstOf firstOfAll leximinFor signpost weightOf claimOf claimBefore firstClaim firstPlace
     oneMore claimsMet divisorSeats countBelow listOf wholePart remainder servedBefore seatsLeft rank remainderSeatsAt
-    remainderSeats
+    remainderSeats among able quotient quotientBefore seatGoesTo quotaSeats
 starred-hold = refl

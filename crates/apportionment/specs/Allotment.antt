@@ -13,9 +13,10 @@ use Rattle.apportionment.specs.Lists.{sum}
 use Rattle.apportionment.specs.Leximin.{leximinFor, gap}
 use Rattle.apportionment.specs.Divisor.{divisorSeats}
 use Rattle.apportionment.specs.Remainders.{remainderSeats}
+use Rattle.apportionment.specs.Quota.{quotaSeats}
 use Rattle.apportionment.specs.declared.DivisorMethod.{DivisorMethod}
 use Rattle.apportionment.specs.declared.Method.{Method}
-use Rattle.apportionment.specs.declared.Method.the-variants.{Leximin, Adams, Dean, Hill, Webster, Jefferson, Remainders}
+use Rattle.apportionment.specs.declared.Method.the-variants.{Leximin, Adams, Dean, Hill, Webster, Jefferson, Remainders, Quota}
 
 -- ---- the checks, each true where it fails
 
@@ -49,6 +50,7 @@ seatsEveryState Hill = true
 seatsEveryState Webster = false
 seatsEveryState Jefferson = false
 seatsEveryState Remainders = false
+seatsEveryState Quota = false
 
 -- 15: the house has fewer seats than there are states, under a method that gives each state one.
 unfoldable pub seatsTooFew : Method → (ps : List ℕ) (H : ℕ) → Bool
@@ -85,6 +87,7 @@ seatsOf Hill ps H = divisorSeats DivisorMethod.Hill ps H
 seatsOf Webster ps H = divisorSeats DivisorMethod.Webster ps H
 seatsOf Jefferson ps H = divisorSeats DivisorMethod.Jefferson ps H
 seatsOf Remainders ps H = remainderSeats ps H
+seatsOf Quota ps H = quotaSeats ps H
 
 -- The steps that allotting reports: the gap between L and H under leximin, 0 otherwise.
 unfoldable pub stepsOf : Method → (ps : List ℕ) (H : ℕ) → ℕ
@@ -95,6 +98,7 @@ stepsOf Hill ps H = 0
 stepsOf Webster ps H = 0
 stepsOf Jefferson ps H = 0
 stepsOf Remainders ps H = 0
+stepsOf Quota ps H = 0
 
 -- The lent seat list afterwards: the allotment, or untouched on a refusal.
 unfoldable pub seatsAfter : Method → (H : ℕ) (ps seats : List ℕ) → List ℕ

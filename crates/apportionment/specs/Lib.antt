@@ -9,5 +9,6 @@ pub mod Quantities
 pub mod Leximin
 pub mod Divisor
 pub mod Remainders
+pub mod Quota
 pub mod Allotment
 pub mod inner

@@ -24,6 +24,11 @@ firstPlace before (suc k) =
     let best = firstPlace before k in
     cond (before (suc k) best) (suc k) best
 
+-- An order of all places by a test and another order: one that passes comes before one that does not, two that pass are ordered by
+-- `before`, and of two that do not pass neither comes first.
+unfoldable pub among : (ℕ → Bool) → (ℕ → ℕ → Bool) → ℕ → ℕ → Bool
+among test before i j = cond (test i) (cond (test j) (before i j) true) false
+
 -- How many places below k pass the test.
 unfoldable pub countBelow : (ℕ → Bool) → ℕ → ℕ
 countBelow test zero = 0

@@ -6,11 +6,11 @@ use Prim.Native.Nat.{ℕ, _-_}
 use lib.ListN.{length, getD}
 use Rattle.apportionment.specs.Text.{bytesOf}
 use Rattle.apportionment.specs.declared.Method.{Method}
-use Rattle.apportionment.specs.declared.Method.the-variants.{Leximin, Adams, Dean, Hill, Webster, Jefferson, Remainders}
+use Rattle.apportionment.specs.declared.Method.the-variants.{Leximin, Adams, Dean, Hill, Webster, Jefferson, Remainders, Quota}
 
 -- The methods, in document 01's order.
 abbrev pub methods : List Method
-methods = Leximin ∷ Adams ∷ Dean ∷ Hill ∷ Webster ∷ Jefferson ∷ Remainders ∷ []
+methods = Leximin ∷ Adams ∷ Dean ∷ Hill ∷ Webster ∷ Jefferson ∷ Remainders ∷ Quota ∷ []
 
 -- The word of a method.
 unfoldable pub methodText : Method → List ℕ
@@ -21,6 +21,7 @@ methodText Hill = bytesOf "hill"
 methodText Webster = bytesOf "webster"
 methodText Jefferson = bytesOf "jefferson"
 methodText Remainders = bytesOf "remainders"
+methodText Quota = bytesOf "quota"
 
 -- The number of a method: its place in the list, counted from 0.
 abbrev pub methodNumber : Method → ℕ
@@ -31,6 +32,7 @@ methodNumber Hill = 3
 methodNumber Webster = 4
 methodNumber Jefferson = 5
 methodNumber Remainders = 6
+methodNumber Quota = 7
 
 -- The number of the last method.
 abbrev pub lastMethod : ℕ
@@ -38,4 +40,4 @@ lastMethod = length methods - 1
 
 -- The method with a number; the last one for any number past it.
 abbrev pub methodAt : ℕ → Method
-methodAt n = getD methods n Remainders
+methodAt n = getD methods n Quota

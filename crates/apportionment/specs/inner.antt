@@ -1,5 +1,5 @@
--- Laws of the words about lists, filling, methods, quantities and checks, the checked problem that the layers above start from, and the
--- bound of its products.
+-- Laws of the words about lists, filling, methods, quantities and checks, the checked problem that the layers above start from, the
+-- bound of its products, and the whole parts of its shares.
 pub mod Tests
 pub mod Lists
 pub mod Filling
@@ -8,3 +8,4 @@ pub mod Methods
 pub mod Quantities
 pub mod Problem
 pub mod MachineWords
+pub mod WholeParts

@@ -7,7 +7,7 @@ pub mod refusals;
 ghost use mathlib.Core.Path.{_≡_};
 ghost use Rattle.apportionment.specs.Checks.{within, outside};
 
-// The seven methods, in the order in which document 01 names them.
+// The eight methods, in the order in which document 01 names them; quota joined them last.
 pub enum Method {
     Leximin,
     Adams,
@@ -16,6 +16,7 @@ pub enum Method {
     Webster,
     Jefferson,
     Remainders,
+    Quota,
 }
 
 // The five of them that meet claims in order by signposts d(a).

@@ -6,15 +6,15 @@ ghost use Rattle.apportionment.specs.Methods.{methodText, methodNumber, 
 ghost use Rattle.apportionment.specs.inner.Methods.{wordTable};
 
 // The number of the last method.
-pub const LAST: u64 = 6;
+pub const LAST: u64 = 7;
 
 // The words of all methods, one after the other, and where each starts; the last entry is the end.
-pub const WORDS: [u8; 46] = *b"leximinadamsdeanhillwebsterjeffersonremainders";
+pub const WORDS: [u8; 51] = *b"leximinadamsdeanhillwebsterjeffersonremaindersquota";
 
-const STARTS: [usize; 8] = [0, 7, 12, 16, 20, 27, 36, 46];
+const STARTS: [usize; 9] = [0, 7, 12, 16, 20, 27, 36, 46, 51];
 
 // The methods, each at its number.
-const METHODS: [Method; 7] = [
+const METHODS: [Method; 8] = [
     Method::Leximin,
     Method::Adams,
     Method::Dean,
@@ -22,6 +22,7 @@ const METHODS: [Method; 7] = [
     Method::Webster,
     Method::Jefferson,
     Method::Remainders,
+    Method::Quota,
 ];
 
 // The number of a method.
@@ -37,6 +38,7 @@ pub fn number(method: Method) -> u64
         Method::Webster => 4,
         Method::Jefferson => 5,
         Method::Remainders => 6,
+        Method::Quota => 7,
     }
 }
 

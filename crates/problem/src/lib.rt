@@ -84,6 +84,7 @@ fn seats_every_state(method: Method) -> bool
         Method::Webster => false,
         Method::Jefferson => false,
         Method::Remainders => false,
+        Method::Quota => false,
     }
 }
 

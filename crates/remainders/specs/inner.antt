@@ -1,6 +1,5 @@
--- How largest remainders are worked out: whole parts, the precedence of states where the seats that are left are served, serving by a bar,
--- and the seats; and that these add up to the house.
-pub mod WholeParts
+-- How largest remainders are worked out: the precedence of states where the seats that are left are served, serving by a bar, and the
+-- seats; and that these add up to the house.
 pub mod Precedence
 pub mod Serving
 pub mod Seats

@@ -1,17 +1,18 @@
 //! Kinds of populations: ordinary ones, and families in which many claims are equal or nearly so;
 //! and the houses tried with the latter.
 
-use reference::{HOUSE_LIMIT, STATES_LIMIT, SUM_LIMIT};
+use reference::{Method, HOUSE_LIMIT, STATES_LIMIT, SUM_LIMIT};
 
 /// The number of states at which the worst is looked for.
 pub const STATES: usize = STATES_LIMIT;
 
-/// The houses tried at a number of states, in rising order. Most are even shares of it. At the
-/// others rounding equal shares leaves most seats to move under one method or another: they lie at
-/// the first house from 4/3, √2 and 3/2 seats a state on, where Dean and leximin, Hill and Webster
-/// turn to rounding up, and beside whole numbers of seats, where Adams rounds up by nearly a seat a
-/// state and Jefferson down.
-pub fn houses(states: u64) -> Vec<u64> {
+/// The houses tried with a method at a number of states, in rising order. Most are even shares of
+/// it. At the others rounding equal shares leaves most seats to move under one method or another:
+/// they lie at the first house from 4/3, √2 and 3/2 seats a state on, where Dean and leximin, Hill
+/// and Webster turn to rounding up, and beside whole numbers of seats, where Adams rounds up by
+/// nearly a seat a state and Jefferson down. The quota method, whose cost grows with the house, is
+/// tried up to the largest one.
+pub fn houses(method: Method, states: u64) -> Vec<u64> {
     // In sixtieths of the states.
     let even = [
         10, 15, 20, 24, 30, 40, 48, 60, 72, 96, 108, 120, 144, 175, 240, 300, 360, 420, 504,
@@ -21,6 +22,9 @@ pub fn houses(states: u64) -> Vec<u64> {
     let mut houses = vec![states - 1, states + 1, 2 * states - 1, 3 * states - 1];
     houses.extend(even.map(|share| states * share / 60));
     houses.extend(turns.map(|(over, under)| (states * over).div_ceil(under)));
+    if method == Method::Quota {
+        houses.extend([600, 1_000, 1_500, 2_250].map(|share| states * share / 60));
+    }
     houses.sort();
     houses
 }
@@ -68,6 +72,17 @@ pub const GIANT: Family = Family {
     name: "thousands and a giant",
     make: |n| with_giant(n, 1_000, SUM_LIMIT - 1_000 * (n as u64 - 1)),
 };
+
+/// The kinds of populations that are swept through all houses, and timed at the largest one.
+pub const KINDS: [Family; 7] = [
+    ORDINARY,
+    ALL_EQUAL,
+    NEAR_PAIRS,
+    NEARLY_EQUAL,
+    THREE_SIZES,
+    RANDOM_SIZES,
+    GIANT,
+];
 
 /// The families with ties.
 pub const FAMILIES: [Family; 12] = [
@@ -161,11 +176,14 @@ mod tests {
     }
 
     #[test]
-    fn no_house_is_tried_twice() {
-        let houses = houses(STATES as u64);
-        assert!(
-            houses.windows(2).all(|pair| pair[0] < pair[1]),
-            "{houses:?}"
-        );
+    fn houses_rise_to_the_limit_at_most() {
+        for method in Method::ALL {
+            let houses = houses(method, STATES as u64);
+            assert!(
+                houses.windows(2).all(|pair| pair[0] < pair[1]),
+                "{houses:?}"
+            );
+            assert!(houses.last() <= Some(&HOUSE_LIMIT));
+        }
     }
 }

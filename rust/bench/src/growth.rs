@@ -3,7 +3,7 @@
 use crate::families::{FAMILIES, STATES};
 use crate::plain::{commas, micros, Times};
 use crate::worst::{Results, Timed};
-use reference::Method;
+use reference::{Method, HOUSE_LIMIT};
 
 /// The numbers of states.
 const GROWTH: [usize; 6] = [
@@ -55,7 +55,7 @@ fn grown(method: Method, worst: &Timed, states: usize) -> (u64, Times) {
         1
     };
     let scaled = worst.house * states as u64 / STATES as u64;
-    (least.max(scaled - 1)..=scaled + 2)
+    (least.max(scaled - 1)..=HOUSE_LIMIT.min(scaled + 2))
         .map(|house| (house, Times::of(method, house, &populations, REPEATS)))
         .max_by(|(_, a), (_, b)| a.library().total_cmp(&b.library()))
         .expect("a house")

@@ -1,5 +1,5 @@
-//! The best plain programs we know for the methods other than leximin, exact like the reference
-//! but quicker: claims in small heaps, from nothing or from rounded seats.
+//! The best plain programs we know for the divisor methods and largest remainders, exact like the
+//! reference but quicker: claims in small heaps, from nothing or from rounded seats.
 
 use reference::{check_problem, Method};
 use std::cmp::{Ordering, Reverse};
@@ -23,7 +23,9 @@ impl Quotient {
             Method::Hill => (p * p, a * (a + 1)),
             Method::Webster => (2 * p, 2 * a + 1),
             Method::Jefferson => (p, a + 1),
-            Method::Leximin | Method::Remainders => unreachable!("not a divisor method"),
+            Method::Leximin | Method::Remainders | Method::Quota => {
+                unreachable!("not a divisor method")
+            }
         };
         Quotient { over, under }
     }

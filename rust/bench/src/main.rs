@@ -1,15 +1,18 @@
 //! Times the proved desk and the plain reference on the same inputs in one run and prints two
 //! Markdown tables: the library's time over the reference's, and the library's own times. With the
 //! word `programs` it times whole programs at the limits instead, with the word `worst` inputs full
-//! of ties beside the fastest plain programs, and with the word `sweep` every house under leximin
-//! for several kinds of populations. Build it with `--release`.
+//! of ties beside the fastest plain programs, with the word `quota` the quota method at the limits,
+//! which `worst` prints too, and with the word `sweep` every house under leximin for several kinds of
+//! populations. Build it with `--release`.
 
+mod events;
 mod families;
 mod growth;
 mod heap;
 mod leximin;
 mod plain;
 mod programs;
+mod quota;
 mod sweep;
 mod tournament;
 mod worst;
@@ -22,7 +25,7 @@ use std::time::{Duration, Instant};
 
 const STATES: [usize; 3] = [10, 100, STATES_LIMIT];
 const HOUSES: [u64; 3] = [100, 1_000, HOUSE_LIMIT];
-const METHODS: [&str; 7] = [
+const METHODS: [&str; 8] = [
     "leximin",
     "adams",
     "dean",
@@ -30,6 +33,7 @@ const METHODS: [&str; 7] = [
     "webster",
     "jefferson",
     "remainders",
+    "quota",
 ];
 /// Different registers of one shape, over which the times are averaged.
 const INPUTS: u64 = 4;
@@ -60,8 +64,9 @@ fn main() {
         Some("programs") => programs::time_them(&input(STATES_LIMIT, HOUSE_LIMIT, 1).bytes),
         Some("plain") => programs::be_plain(),
         Some("worst") => worst::time_it(),
+        Some("quota") => quota::print_it(),
         Some("sweep") => sweep::print_it(),
-        Some(_) => eprintln!("usage: bench [programs | worst | sweep]"),
+        Some(_) => eprintln!("usage: bench [programs | worst | quota | sweep]"),
     }
 }
 

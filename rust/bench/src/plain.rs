@@ -1,7 +1,7 @@
 //! The programs that are timed beside each other on inputs full of ties: the library, the
 //! reference and quicker plain ones, all exact.
 
-use crate::{calls, heap, leximin, repeat, tournament};
+use crate::{calls, events, heap, leximin, repeat, tournament};
 use reference::Method;
 use std::hint::black_box;
 
@@ -22,6 +22,12 @@ pub fn programs(method: Method) -> Vec<(&'static str, Fill)> {
             programs.push(("tournament", tournament::from_nearest));
         }
         Method::Remainders => programs.push(("parted remainders", heap::parted_remainders)),
+        Method::Quota => {
+            programs.push(("scan of all states", events::scan));
+            programs.push(("event order by heaps", events::with_heaps));
+            programs.push(("event order by buckets and a heap", events::with_buckets));
+            programs.push(("free seats beside whole shares", events::by_free_seats));
+        }
         _ => {
             programs.push(("heap from nothing", heap::from_nothing));
             programs.push(("heap from rounded seats", heap::from_rounded));

@@ -1,24 +1,13 @@
 //! Every house from the number of states to the limit under leximin, one after another, for several
 //! kinds of populations. Prints Markdown for docs/BENCHMARKS.md.
 
-use crate::families::{
-    Family, ALL_EQUAL, GIANT, NEARLY_EQUAL, NEAR_PAIRS, ORDINARY, RANDOM_SIZES, THREE_SIZES,
-};
+use crate::families::KINDS;
 use crate::plain::{commas, micros, programs, Fill, LIBRARY, REFERENCE};
 use crate::yardstick;
 use reference::{Method, HOUSE_LIMIT, STATES_LIMIT};
 use std::hint::black_box;
 use std::time::Instant;
 
-const KINDS: [Family; 7] = [
-    ORDINARY,
-    ALL_EQUAL,
-    NEAR_PAIRS,
-    NEARLY_EQUAL,
-    THREE_SIZES,
-    RANDOM_SIZES,
-    GIANT,
-];
 /// Sweeps by each program; of each house's times the best counts. A house comes again only after
 /// all others, so that no program is timed on branches that it has just been through.
 const PASSES: u32 = 5;

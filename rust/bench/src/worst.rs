@@ -3,7 +3,7 @@
 
 use crate::families::{houses, FAMILIES, STATES};
 use crate::plain::{commas, micros, programs, Times};
-use crate::{growth, yardstick};
+use crate::{growth, quota, yardstick};
 use reference::Method;
 
 /// Repeats of each input, the best of which counts.
@@ -36,6 +36,8 @@ pub fn time_it() {
     print_longest(&results);
     print_families(&results);
     growth::print_it(&results);
+    println!();
+    quota::print_it();
 }
 
 fn time_method(method: Method) -> Results {
@@ -49,7 +51,7 @@ fn time_method(method: Method) -> Results {
     };
     let mut timed = Vec::new();
     for family in 0..FAMILIES.len() {
-        for house in houses(STATES as u64) {
+        for house in houses(method, STATES as u64) {
             if !method.seats_every_state() || house >= STATES as u64 {
                 timed.push(Timed {
                     family,
@@ -73,7 +75,8 @@ fn time_method(method: Method) -> Results {
 }
 
 fn print_worst(results: &[Results]) {
-    let houses = houses(STATES as u64);
+    let most = houses(Method::Quota, STATES as u64);
+    let houses = houses(Method::Leximin, STATES as u64);
     println!("\nLibrary's time over that of the fastest exact plain program at {STATES} states:");
     println!(
         "the worst of {} families with ties and of {} houses from {} to {} (from {STATES} on where",
@@ -82,8 +85,12 @@ fn print_worst(results: &[Results]) {
         houses[0],
         commas(houses[houses.len() - 1])
     );
-    println!("the method gives every state a seat). Times in µs; the last column says on how many");
-    println!("of the inputs the library was slower:\n");
+    println!(
+        "the method gives every state a seat; under quota {} houses up to {}). Times in µs; the",
+        most.len(),
+        commas(most[most.len() - 1])
+    );
+    println!("last column says on how many of the inputs the library was slower:\n");
     println!("| | worst ratio | family | house | library | plain | which plain | above 1 |");
     println!("|---|--:|---|--:|--:|--:|---|--:|");
     for Results { method, timed } in results {

@@ -2,17 +2,7 @@
 
 use crate::random::Random;
 use crate::{problem, MOST_STATES};
-use reference::{HOUSE_LIMIT, SUM_LIMIT};
-
-const METHODS: [&str; 7] = [
-    "leximin",
-    "adams",
-    "dean",
-    "hill",
-    "webster",
-    "jefferson",
-    "remainders",
-];
+use reference::{Method, HOUSE_LIMIT, SUM_LIMIT};
 
 /// A register before it is written out: the fields of each line, and how each line ends.
 #[derive(Clone)]
@@ -67,18 +57,18 @@ pub fn sound(random: &mut Random) -> Draft {
         house = random.from(1, house);
     }
     let style = random.below(5);
-    let mut method = random.pick(&METHODS);
-    if method == "remainders" && random.once_in(2) {
+    let mut method = random.pick(&Method::ALL);
+    if method == Method::Remainders && random.once_in(2) {
         (populations, house) = problem::equal_remainders(random);
+    } else if method == Method::Quota && random.once_in(2) {
+        (populations, house) = problem::few_sizes(random);
     } else if random.once_in(8) {
         (populations, house) = problem::nearly_whole(random);
     } else if random.once_in(8) {
-        let divisor;
-        (divisor, populations, house) = problem::equal_quotients(random);
-        method = divisor.name();
+        (method, populations, house) = problem::equal_quotients(random);
     }
     let mut draft = Draft::plain(
-        method,
+        method.name(),
         house,
         &names(style, populations.len()),
         &populations,
@@ -148,7 +138,8 @@ fn past_a_limit(random: &mut Random) -> Draft {
     };
     let populations = problem::populations(random, n);
     let names = names(style, populations.len());
-    Draft::plain(random.pick(&METHODS), house, &names, &populations)
+    let method = random.pick(&Method::ALL).name();
+    Draft::plain(method, house, &names, &populations)
 }
 
 /// A register with some damage, or none.
@@ -227,7 +218,7 @@ fn harm_draft(random: &mut Random, draft: &mut Draft) {
 
 /// Something else in the place of a field: a near miss of it, or a value at some limit.
 fn harmed_field(random: &mut Random, field: &[u8]) -> Vec<u8> {
-    const VALUES: [&str; 24] = [
+    const VALUES: [&str; 26] = [
         "",
         "0",
         "1",
@@ -249,6 +240,8 @@ fn harmed_field(random: &mut Random, field: &[u8]) -> Vec<u8> {
         "register",
         "LEXIMIN",
         "leximin",
+        "quota",
+        "quotas",
         "webster\t",
         "\u{7f}",
         "\u{e9}",

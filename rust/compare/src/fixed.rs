@@ -1,10 +1,11 @@
 //! Inputs that every run begins with: the document's examples, departures that are hard to round,
-//! the limits, equal quotients at the largest seats, the longest registers, and one register cut,
-//! changed, filled and thinned at every byte.
+//! the limits, equal quotients at the largest seats, the quota method at every house of some
+//! problems and at the limits, the longest registers, and one register cut, changed, filled and
+//! thinned at every byte.
 
 use crate::damage::{self, Draft};
 use crate::random::Random;
-use crate::{seeded, Case, MOST_STATES};
+use crate::{seeded, Case, METHODS, MOST_STATES};
 use reference::{Method, Placing, BYTES_LIMIT, HOUSE_LIMIT, STATES_LIMIT, SUM_LIMIT};
 
 /// The fixed inputs; the seed settles only which room and place a register is tried with, and
@@ -16,6 +17,9 @@ pub fn fixed(seed: u64) -> Vec<Case> {
     cases.extend(listed_departures());
     cases.extend(limits(random));
     cases.extend(largest_seats());
+    cases.extend(every_house());
+    cases.extend(quota_limits());
+    cases.extend(quota_words());
     cases.extend(longest_walk());
     cases.extend(longest_registers(random));
     cases.extend(alike(random));
@@ -54,9 +58,10 @@ fn at_every_byte(register: &[u8]) -> Vec<Vec<u8>> {
 }
 
 /// The allotments and placings that the document names, some where moves are parted by register
-/// order alone, and some where equal remainders are parted by population.
+/// order alone, some where equal remainders are parted by population, and one where the methods
+/// part from each other and from the quota.
 fn examples() -> Vec<Case> {
-    let problems: [(u64, &[u64]); 23] = [
+    let problems: [(u64, &[u64]); 24] = [
         (20, &[26, 27, 28, 29, 91]),
         (14, &[69, 70, 150]),
         (15, &[69, 70, 150]),
@@ -80,16 +85,12 @@ fn examples() -> Vec<Case> {
         (4, &[1, 1, 5, 1]),
         (5, &[1, 2, 3, 7, 12]),
         (HOUSE_LIMIT, &[85_899, 1_431_741_664, 2_863_139_732]),
+        (100, &[5_117, 4_400, 162, 161, 160]),
     ];
     let mut cases = Vec::new();
     for (house, populations) in problems {
-        for method in 0..8 {
-            cases.push(Case::Allot {
-                method,
-                house,
-                room: populations.len(),
-                populations: populations.to_vec(),
-            });
+        for method in 0..=METHODS {
+            cases.push(allot(method, house, populations));
         }
         cases.push(Case::Walk {
             house,
@@ -97,6 +98,16 @@ fn examples() -> Vec<Case> {
         });
     }
     cases
+}
+
+/// Allotting into a list of the right length.
+fn allot(method: u64, house: u64, populations: &[u64]) -> Case {
+    Case::Allot {
+        method,
+        house,
+        room: populations.len(),
+        populations: populations.to_vec(),
+    }
 }
 
 /// The population of a state and the total with which, at one seat of two, its departure is an
@@ -201,19 +212,15 @@ fn limits(random: &mut Random) -> Vec<Case> {
                 HOUSE_LIMIT,
                 HOUSE_LIMIT + 1,
             ] {
-                for method in 0..7 {
-                    cases.push(Case::Allot {
-                        method,
-                        house,
-                        room: n,
-                        populations: populations.clone(),
-                    });
+                for method in 0..METHODS {
+                    cases.push(allot(method, house, &populations));
                 }
                 cases.push(Case::Walk {
                     house,
                     populations: populations.clone(),
                 });
-                let method = random.pick(&["leximin", "dean", "hill", "webster", "remainders"]);
+                let methods = ["leximin", "dean", "hill", "webster", "remainders", "quota"];
+                let method = random.pick(&methods);
                 let names = damage::names(damage::LONG_NAMES, n);
                 let bytes = Draft::plain(method, house, &names, &populations).bytes();
                 cases.push(seeded::around(random, bytes));
@@ -268,8 +275,8 @@ fn limits(random: &mut Random) -> Vec<Case> {
 }
 
 /// The last seat of the largest house, for which all states have the same quotient under a divisor
-/// method: as they are and with a voter more or less in the last state, and each of these turned
-/// round.
+/// method or the quota method: as they are and with a voter more or less in the last state, and each
+/// of these turned round.
 fn largest_seats() -> Vec<Case> {
     let b = HOUSE_LIMIT - 2;
     // In each list the seats before the last add up to one less than the house: 1 and b, or under
@@ -281,6 +288,7 @@ fn largest_seats() -> Vec<Case> {
         (Method::Hill, hill),
         (Method::Webster, vec![3, 2 * b + 1]),
         (Method::Jefferson, vec![2, b + 1]),
+        (Method::Quota, vec![2, b + 1]),
     ];
     let mut cases = Vec::new();
     for (method, counts) in methods {
@@ -290,12 +298,7 @@ fn largest_seats() -> Vec<Case> {
                 let last = populations.len() - 1;
                 populations[last] = populations[last] + voters - 1;
                 for _ in 0..2 {
-                    cases.push(Case::Allot {
-                        method: method as u64,
-                        house: HOUSE_LIMIT,
-                        room: populations.len(),
-                        populations: populations.clone(),
-                    });
+                    cases.push(allot(method as u64, HOUSE_LIMIT, &populations));
                     populations.reverse();
                 }
             }
@@ -304,16 +307,69 @@ fn largest_seats() -> Vec<Case> {
     cases
 }
 
+/// The quota method at every house from 1 on, so that each seat shows by itself: equal states, equal
+/// quotients of different states, shares that are whole at the same house, a large state among small
+/// ones, and none of these.
+fn every_house() -> Vec<Case> {
+    let lists: [&[u64]; 9] = [
+        &[7, 7, 7, 7, 7],
+        &[1, 1, 5, 1],
+        &[1, 2, 3, 4, 5, 6],
+        &[60, 30, 20, 15, 12, 10],
+        &[12, 4, 4, 3, 1, 6, 6, 12],
+        &[13, 11, 7, 5, 3, 2],
+        &[5_117, 4_400, 162, 161, 160],
+        &[1, 1, 1, 1_000, 1, 1, 1],
+        &[SUM_LIMIT / 2, SUM_LIMIT / 3, SUM_LIMIT / 7, 1, 1],
+    ];
+    let houses = |list| (1..=60).map(move |house| allot(Method::Quota as u64, house, list));
+    lists.into_iter().flat_map(houses).collect()
+}
+
+/// The quota method for as many states as can be: a giant among states of one voter, states of two
+/// sizes a voter apart, of sizes from one to twelve units, which have equal quotients all along, of
+/// whole shares of the largest house, and of any size; the sum is at its limit or near it.
+fn quota_limits() -> Vec<Case> {
+    let limit = SUM_LIMIT / MOST_STATES;
+    let places = 0..MOST_STATES;
+    let pairs: Vec<u64> = places.clone().map(|i| limit - (i + 1) % 2).collect();
+    let units: Vec<u64> = places
+        .clone()
+        .map(|i| limit / 12 * (i * 7 % 12 + 1))
+        .collect();
+    // From 35 to 40 seats each, of so many voters; the first state has what is left to the house.
+    let seat = SUM_LIMIT / HOUSE_LIMIT;
+    let mut whole: Vec<u64> = places.map(|i| seat * (35 + i * 5 % 6)).collect();
+    whole[0] += seat * HOUSE_LIMIT - whole.iter().sum::<u64>();
+    let random = &mut Random::new(0, 0);
+    let mut any: Vec<u64> = (0..MOST_STATES).map(|_| 1 + random.bits(22)).collect();
+    any[STATES_LIMIT / 3] += SUM_LIMIT - any.iter().sum::<u64>();
+    let mut cases = Vec::new();
+    for populations in [giant(), pairs, units, whole, any] {
+        for house in [400, MOST_STATES, 7_777, HOUSE_LIMIT - 1, HOUSE_LIMIT] {
+            cases.push(allot(Method::Quota as u64, house, &populations));
+        }
+    }
+    cases
+}
+
+/// Registers of the quota method whose method field is its word, or that word with one byte cut,
+/// changed, put in, doubled or taken out.
+fn quota_words() -> Vec<Case> {
+    let words = at_every_byte(b"quota").into_iter();
+    let register = |word: Vec<u8>| Case::Register {
+        room: 100,
+        place: 1,
+        bytes: [b"register,", &word[..], b",3,2\nA,1\nB,2\ntotal,3\n"].concat(),
+    };
+    words.map(register).collect()
+}
+
 /// One state has all voters but one for each other, and gives up a seat at every step: the longest
 /// walk we know, of as many steps as there are other states.
 fn longest_walk() -> Vec<Case> {
     vec![
-        Case::Allot {
-            method: 0,
-            house: MOST_STATES,
-            room: STATES_LIMIT,
-            populations: giant(),
-        },
+        allot(Method::Leximin as u64, MOST_STATES, &giant()),
         Case::Walk {
             house: MOST_STATES,
             populations: giant(),
@@ -326,7 +382,7 @@ fn longest_walk() -> Vec<Case> {
 /// past them.
 fn longest_registers(random: &mut Random) -> Vec<Case> {
     let mut cases = Vec::new();
-    for method in ["leximin", "hill", "webster", "remainders"] {
+    for method in ["leximin", "hill", "webster", "remainders", "quota"] {
         let bytes = wide(method, STATES_LIMIT).bytes();
         let length = reference::listing(&bytes).map_or(100, |listing| listing.len());
         for (room, place) in [(length - 1, STATES_LIMIT), (length, STATES_LIMIT - 1)] {
@@ -469,6 +525,23 @@ mod tests {
             assert_eq!(rising, falling);
             assert_eq!(rising.iter().sum::<u64>(), HOUSE_LIMIT - 1);
         }
+    }
+
+    #[test]
+    fn the_largest_quota_inputs_are_sound_and_one_has_whole_shares() {
+        let mut whole = 0;
+        for case in quota_limits() {
+            let Case::Allot {
+                house, populations, ..
+            } = case
+            else {
+                panic!("not an allotment: {case:?}");
+            };
+            assert_eq!(reference::check_problem(&populations, house), Ok(()));
+            let sum: u64 = populations.iter().sum();
+            whole += populations.iter().all(|p| p * house % sum == 0) as u64;
+        }
+        assert_eq!(whole, 1);
     }
 
     #[test]

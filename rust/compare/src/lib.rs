@@ -17,6 +17,8 @@ pub use seeded::seeded;
 
 /// The most states, as a number to count with.
 const MOST_STATES: u64 = reference::STATES_LIMIT as u64;
+/// The number of methods, which is the first number that stands for none.
+const METHODS: u64 = reference::Method::ALL.len() as u64;
 
 /// The inputs of a run: the fixed ones first, then as many seeded ones as are asked for.
 pub struct Inputs {

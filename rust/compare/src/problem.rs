@@ -1,5 +1,5 @@
 //! Sound problems for allotting: populations and a house, with a liking for equal departures,
-//! equal quotients, equal remainders, departures next to zero and the limits.
+//! equal quotients, equal remainders, whole shares, departures next to zero and the limits.
 
 use crate::random::Random;
 use crate::MOST_STATES;
@@ -149,7 +149,9 @@ fn same_quotient(random: &mut Random) -> (Method, Vec<u64>, Vec<u64>) {
                     let a = (times * odd - 1) / 2;
                     (a, 30 / times * a * (a + 1))
                 }
-                Method::Leximin | Method::Remainders => unreachable!("not a divisor method"),
+                Method::Leximin | Method::Remainders | Method::Quota => {
+                    unreachable!("not a divisor method")
+                }
             }
         })
         .unzip();
@@ -263,6 +265,64 @@ pub fn equal_remainders(random: &mut Random) -> (Vec<u64>, u64) {
     (populations, house)
 }
 
+/// States of a few sizes and a house up to the first where every share p × H / P is whole, or at
+/// such a house or beside it: under the quota method many states want a seat by the same quotient,
+/// and many reach their share at the same seat. Often one of them is as large as the others
+/// together, or some times as large, and only the quota keeps it from further seats; at times one
+/// has a voter more or less.
+pub fn few_sizes(random: &mut Random) -> (Vec<u64>, u64) {
+    let n = states(random);
+    let most = random.pick(&[1, 2, 3, 6, 12]);
+    let mut counts: Vec<u64> = (0..n).map(|_| random.from(1, most)).collect();
+    // The large state's share is whole at every house that is a multiple of this.
+    let mut parts = 1;
+    if n > 1 && random.once_in(2) {
+        let at = random.place(&counts);
+        let others = counts.iter().sum::<u64>() - counts[at];
+        parts = random.from(2, 5);
+        counts[at] = others * (parts - 1);
+    }
+    let sum: u64 = counts.iter().sum();
+    let most_unit = (SUM_LIMIT - 1) / sum;
+    let unit = match random.below(3) {
+        0 => 1,
+        1 => random.from(1, most_unit),
+        _ => most_unit,
+    };
+    let mut populations: Vec<u64> = counts.iter().map(|count| unit * count).collect();
+    if random.once_in(4) {
+        let at = random.place(&populations);
+        populations[at] = (populations[at] + random.pick(&[0, 2]) - 1).max(1);
+    }
+    // All shares are whole where the house is a multiple of the counts' sum.
+    let rounds = random.below(HOUSE_LIMIT / sum + 1).min(random.bits(4));
+    let house = match random.below(5) {
+        0 => random.from(1, sum),
+        1 | 2 => parts * random.from(1, sum / parts),
+        3 => sum * rounds + random.below(n + 1),
+        _ => (sum * rounds + random.below(5)).saturating_sub(2),
+    };
+    (populations, house.clamp(1, HOUSE_LIMIT))
+}
+
+/// The lists of populations, the same in every run.
+const LISTS: u64 = 16;
+/// The houses of such a list, one after another.
+const HOUSES: u64 = 20;
+
+/// One of the lists at one of its houses. A long run gives each of them each of these houses, so that a
+/// seat that goes astray is seen where it is given, and not only where it is missing later.
+pub fn house_after_house(random: &mut Random) -> (Vec<u64>, u64) {
+    let list = &mut Random::new(0, random.below(LISTS));
+    let n = states(list);
+    let populations = populations(list, n);
+    let first = match list.below(2) {
+        0 => 1,
+        _ => house(list, n).min(HOUSE_LIMIT + 1 - HOUSES),
+    };
+    (populations, first + random.below(HOUSES))
+}
+
 #[cfg(test)]
 mod tests {
     use super::*;
@@ -285,6 +345,22 @@ mod tests {
             }
         }
         assert_eq!(methods.len(), DIVISOR_METHODS.len());
+    }
+
+    #[test]
+    fn quota_accepts_few_sizes_and_every_house_of_a_list() {
+        let mut equal = 0;
+        for input in 0..400 {
+            let (populations, house) = few_sizes(&mut Random::new(1, input));
+            let mut seats = vec![0; populations.len()];
+            allot(Method::Quota, house, &populations, &mut seats).unwrap();
+            let twice = |i: usize| populations[..i].contains(&populations[i]);
+            equal += (0..populations.len()).any(twice) as u32;
+            let (populations, house) = house_after_house(&mut Random::new(1, input));
+            let mut seats = vec![0; populations.len()];
+            allot(Method::Quota, house, &populations, &mut seats).unwrap();
+        }
+        assert!(equal > 200, "{equal}");
     }
 
     #[test]

@@ -3,8 +3,8 @@
 use crate::damage::{self, Draft};
 use crate::problem::{self, HALVES};
 use crate::random::Random;
-use crate::{placing, Case, MOST_STATES};
-use reference::{BYTES_LIMIT, HOUSE_LIMIT, SUM_LIMIT};
+use crate::{placing, Case, METHODS, MOST_STATES};
+use reference::{Method, BYTES_LIMIT, HOUSE_LIMIT, SUM_LIMIT};
 
 /// The input with a given number under a seed.
 pub fn seeded(seed: u64, number: u64) -> Case {
@@ -131,18 +131,26 @@ fn allot(random: &mut Random) -> Case {
     let (mut populations, mut house) = any_problem(random);
     let method = match random.below(40) {
         0 => random.wild(),
-        1 => random.from(6, 8),
-        2..=8 => 0,
-        9..=13 => {
+        1 => random.from(METHODS - 1, METHODS + 1),
+        2..=7 => Method::Leximin as u64,
+        8..=12 => {
             (populations, house) = problem::equal_remainders(random);
-            6
+            Method::Remainders as u64
         }
-        14..=19 => {
+        13..=18 => {
             let method;
             (method, populations, house) = problem::equal_quotients(random);
             method as u64
         }
-        _ => random.below(7),
+        19..=21 => {
+            (populations, house) = problem::few_sizes(random);
+            Method::Quota as u64
+        }
+        22 | 23 => {
+            (populations, house) = problem::house_after_house(random);
+            Method::Quota as u64
+        }
+        _ => random.below(METHODS),
     };
     let n = populations.len();
     let room = match random.below(20) {

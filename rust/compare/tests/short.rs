@@ -1,9 +1,9 @@
 //! A short run of the comparison, and what makes a long one worth reading: every refusal is met,
-//! the limits and departures that are hard to round are reached by chance too, and a printed input
-//! is the input that was run.
+//! the limits, departures that are hard to round and seats that a wrong quota method would give to
+//! another state are reached by chance too, and a printed input is the input that was run.
 
 use compare::{check, Case, Counts, Inputs};
-use reference::{BYTES_LIMIT, HOUSE_LIMIT, SHOWN_SCALE, STATES_LIMIT};
+use reference::{allot, Method, BYTES_LIMIT, HOUSE_LIMIT, SHOWN_SCALE, STATES_LIMIT};
 use std::collections::HashSet;
 
 #[test]
@@ -157,6 +157,125 @@ fn seeded_inputs_reach_departures_that_are_hard_to_round() {
         assert!(met[0] > 25 && met[1] > 25, "{single:?} {listed:?}");
     }
     assert!(single.large > 50, "{single:?}");
+}
+
+/// A state as the quota method sees it: population, seats, and the sum of all populations.
+#[derive(Clone, Copy)]
+struct State {
+    p: u64,
+    a: u64,
+    sum: u64,
+}
+
+/// A quota method with rules of its own: whether a state may have the seat numbered h, and whether
+/// a later state comes before an earlier one. Where none may have it, the first state has it.
+struct Rules {
+    name: &'static str,
+    able: fn(State, u64) -> bool,
+    before: fn(State, State) -> bool,
+}
+
+const RIGHT: Rules = Rules {
+    name: "the right one",
+    able: |state, h| state.a * state.sum < state.p * h,
+    before: |later, earlier| later.p * (earlier.a + 1) > earlier.p * (later.a + 1),
+};
+
+const WRONG: [Rules; 6] = [
+    Rules {
+        name: "equal quotients to the later state",
+        before: |later, earlier| later.p * (earlier.a + 1) >= earlier.p * (later.a + 1),
+        ..RIGHT
+    },
+    Rules {
+        name: "able at its share too",
+        able: |state, h| state.a * state.sum <= state.p * h,
+        ..RIGHT
+    },
+    Rules {
+        name: "able by the seats before",
+        able: |state, h| state.a * state.sum < state.p * (h - 1),
+        ..RIGHT
+    },
+    Rules {
+        name: "able by the seat after",
+        able: |state, h| state.a * state.sum < state.p * (h + 1),
+        ..RIGHT
+    },
+    Rules {
+        name: "p / a",
+        before: |later, earlier| later.p * earlier.a > earlier.p * later.a,
+        ..RIGHT
+    },
+    Rules {
+        name: "all able",
+        able: |_, _| true,
+        ..RIGHT
+    },
+];
+
+impl Rules {
+    fn seats(&self, house: u64, populations: &[u64]) -> Vec<u64> {
+        let sum = populations.iter().sum();
+        let mut seats = vec![0; populations.len()];
+        for h in 1..=house {
+            let state = |i: usize| State {
+                p: populations[i],
+                a: seats[i],
+                sum,
+            };
+            let able = (0..seats.len()).filter(|&i| (self.able)(state(i), h));
+            let first = able.reduce(|earlier, later| {
+                if (self.before)(state(later), state(earlier)) {
+                    later
+                } else {
+                    earlier
+                }
+            });
+            seats[first.unwrap_or(0)] += 1;
+        }
+        seats
+    }
+}
+
+#[test]
+fn seeded_inputs_tell_the_quota_method_from_wrong_ones() {
+    let inputs = Inputs::new(1);
+    let mut tried = HashSet::new();
+    let mut told = [0; WRONG.len()];
+    let mut below = 0;
+    for number in inputs.fixed()..inputs.fixed() + 20_000 {
+        let Case::Allot {
+            method,
+            house,
+            populations,
+            ..
+        } = inputs.get(number)
+        else {
+            continue;
+        };
+        if method != Method::Quota as u64 {
+            continue;
+        }
+        let mut seats = vec![0; populations.len()];
+        let allotted = allot(Method::Quota, house, &populations, &mut seats);
+        if allotted.is_err() || house * seats.len() as u64 > 100_000 {
+            continue;
+        }
+        assert_eq!(RIGHT.seats(house, &populations), seats, "{}", RIGHT.name);
+        for (told, wrong) in told.iter_mut().zip(WRONG) {
+            *told += (wrong.seats(house, &populations) != seats) as u64;
+        }
+        below += (house < seats.len() as u64) as u64;
+        tried.insert((populations, house));
+    }
+    for (told, wrong) in told.into_iter().zip(WRONG) {
+        assert!(told > 25, "{}: {told}", wrong.name);
+    }
+    assert!(below > 20, "houses below the states: {below}");
+    let next = |(populations, house): &(Vec<u64>, u64)| (populations.clone(), house + 1);
+    let in_a_row = tried.iter().filter(|one| tried.contains(&next(one)));
+    assert!(in_a_row.count() > 50);
 }
 
 #[test]

@@ -1,7 +1,7 @@
 //! The proved allotment desk, called from Rust: it reads a register of states, allots a house by
-//! one of seven methods, shows leximin's work seat by seat and writes a listing. Every function
+//! one of eight methods, shows leximin's work seat by seat and writes a listing. Every function
 //! here is a thin safe wrapper over the C interface in [`ffi`]. The library allocates nothing; a call
-//! takes up to 104 KiB of stack, as `include/desk.h` says for each operation.
+//! takes up to 200 KiB of stack, as `include/desk.h` says for each operation.
 //!
 //! ```
 //! let register = b"register,leximin,3,2\nNorth,100\nSouth,200\ntotal,300\n";
@@ -61,8 +61,10 @@ fn outcome(number: u64, line: u64) -> Result<(), Refusal> {
     }
 }
 
-/// The seven methods, in the order of their numbers. Under largest remainders, of equal remainders
-/// the larger population has the seat, and of equal populations too the earlier state.
+/// The eight methods, in the order of their numbers. Under largest remainders, of equal remainders
+/// the larger population has the seat, and of equal populations too the earlier state. Quota,
+/// by Balinski and Young, gives seat after seat as Jefferson does, but only to states below their
+/// share of the seats so far, that seat included.
 #[derive(Clone, Copy, Debug, PartialEq, Eq)]
 pub enum Method {
     Leximin,
@@ -72,10 +74,11 @@ pub enum Method {
     Webster,
     Jefferson,
     Remainders,
+    Quota,
 }
 
 impl Method {
-    pub const ALL: [Method; 7] = [
+    pub const ALL: [Method; 8] = [
         Method::Leximin,
         Method::Adams,
         Method::Dean,
@@ -83,6 +86,7 @@ impl Method {
         Method::Webster,
         Method::Jefferson,
         Method::Remainders,
+        Method::Quota,
     ];
 }
 

@@ -80,10 +80,41 @@ fn every_method_has_its_number() {
         "webster",
         "jefferson",
         "remainders",
+        "quota",
     ]) {
         let register = format!("register,{word},3,2\nA,1\nB,2\ntotal,3\n");
         assert_eq!(read(register.as_bytes()).unwrap().method(), method);
     }
+    for word in ["quotas", "quot", "Quota"] {
+        let register = format!("register,{word},3,2\nA,1\nB,2\ntotal,3\n");
+        assert_eq!(
+            read(register.as_bytes()),
+            Err(Refusal { number: 4, line: 1 })
+        );
+    }
+}
+
+#[test]
+fn a_number_past_the_last_method_is_refused() {
+    let mut seats = [7; 2];
+    for method in [Method::Quota as u64 + 1, u64::MAX] {
+        // SAFETY: both pointers have two numbers after them.
+        let allotted =
+            unsafe { ffi::desk_allot(method, 2, [1, 3].as_ptr(), 2, seats.as_mut_ptr(), 2) };
+        assert_eq!((allotted.refusal, allotted.steps), (4, 0));
+        assert_eq!(seats, [7; 2]);
+    }
+}
+
+#[test]
+fn quota_keeps_each_state_within_its_quota() {
+    let populations = [5_117, 4_400, 162, 161, 160];
+    let mut seats = [0; 5];
+    assert_eq!(allot(Method::Quota, 100, &populations, &mut seats), Ok(0));
+    assert_eq!(seats, [52, 44, 2, 1, 1]);
+    let mut seats = [7; 3];
+    assert_eq!(allot(Method::Quota, 2, &[5, 5, 5], &mut seats), Ok(0));
+    assert_eq!(seats, [1, 1, 0]);
 }
 
 #[test]

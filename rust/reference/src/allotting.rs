@@ -1,5 +1,6 @@
-//! Allotting a house by any of the seven methods: the divisor methods by a heap of claims,
-//! largest remainders by sorting, leximin by opening a placing and stepping to the house.
+//! Allotting a house by any of the eight methods: the divisor methods by a heap of claims,
+//! largest remainders by sorting, the quota method by one heap of states that wait and one of
+//! those that may have the next seat, leximin by opening a placing and stepping to the house.
 
 use crate::{leximin, refusal, Method, Refusal, HOUSE_LIMIT, STATES_LIMIT, SUM_LIMIT};
 use std::cmp::{Ordering, Reverse};
@@ -24,6 +25,7 @@ pub fn allot(
     let (allotted, steps) = match method {
         Method::Leximin => leximin::allotted(populations, house),
         Method::Remainders => (largest_remainders(populations, house), 0),
+        Method::Quota => (within_quota(populations, house), 0),
         _ => (first_claims(method, populations, house), 0),
     };
     seats.copy_from_slice(&allotted);
@@ -64,8 +66,8 @@ impl Quotient {
             Method::Dean => (p * (2 * a + 1), 2 * a * (a + 1)),
             Method::Hill => (p * p, a * (a + 1)),
             Method::Webster => (2 * p, 2 * a + 1),
-            Method::Jefferson => (p, a + 1),
-            Method::Leximin | Method::Remainders => unreachable!("not a divisor method"),
+            Method::Jefferson | Method::Quota => (p, a + 1),
+            Method::Leximin | Method::Remainders => unreachable!("a method without quotients"),
         };
         Quotient { over, under }
     }
@@ -117,6 +119,30 @@ fn largest_remainders(populations: &[u64], house: u64) -> Vec<u64> {
     order.sort_by_key(|&i| Reverse((remainder(i), populations[i])));
     for &i in &order[..left as usize] {
         seats[i] += 1;
+    }
+    seats
+}
+
+/// The quota method from nothing. The seat numbered h is for states that are below their share of
+/// h seats, a × P < p × h, and of these for the one with the largest quotient, of equal ones the
+/// first in the register. A state with a seats is below its share from some seat on and stays so
+/// until it has another, so that it waits for that seat and then stands among the able.
+fn within_quota(populations: &[u64], house: u64) -> Vec<u64> {
+    let sum: u64 = populations.iter().sum();
+    let mut seats = vec![0; populations.len()];
+    let from = |i: usize, a: u64| (Reverse(a * sum / populations[i] + 1), Reverse(i));
+    let mut waiting: BinaryHeap<_> = (0..seats.len()).map(|i| from(i, 0)).collect();
+    let mut able = BinaryHeap::new();
+    for h in 1..=house {
+        while let Some(&(_, Reverse(i))) = waiting.peek().filter(|(from, _)| from.0 <= h) {
+            waiting.pop();
+            let quotient = Quotient::of(Method::Quota, populations[i], seats[i]);
+            able.push((quotient, Reverse(i)));
+        }
+        // The seats given are fewer than h and the shares add up to h.
+        let (_, Reverse(i)) = able.pop().expect("a state below its share");
+        seats[i] += 1;
+        waiting.push(from(i, seats[i]));
     }
     seats
 }
@@ -225,6 +251,150 @@ mod tests {
     fn the_larger_remainder_comes_before_the_larger_population() {
         // Remainders 9 and 1.
         assert_eq!(largest_remainders(&[3, 7], 3), [1, 2]);
+    }
+
+    /// The quota method by its words: for each seat a look at every state. Hands over each number
+    /// of seats given, and the seats.
+    fn seat_by_seat(populations: &[u64], house: u64, mut visit: impl FnMut(u64, &[u64])) {
+        let sum = populations.iter().sum::<u64>() as u128;
+        let mut seats = vec![0; populations.len()];
+        let product = |x: u64, y: u64| x as u128 * y as u128;
+        for h in 1..=house {
+            let mut first: Option<usize> = None;
+            for (i, &p) in populations.iter().enumerate() {
+                let able = seats[i] as u128 * sum < product(p, h);
+                // A later state needs the larger quotient; an equal one is not enough.
+                let comes_before =
+                    |k: usize| product(p, seats[k] + 1) > product(populations[k], seats[i] + 1);
+                if able && first.is_none_or(comes_before) {
+                    first = Some(i);
+                }
+            }
+            seats[first.expect("a state below its share")] += 1;
+            visit(h, &seats);
+        }
+    }
+
+    /// Numbers by shifts, from a seed that is not 0.
+    fn numbers(seed: u64) -> impl FnMut() -> u64 {
+        let mut number = seed;
+        move || {
+            number ^= number << 13;
+            number ^= number >> 7;
+            number ^= number << 17;
+            number
+        }
+    }
+
+    /// Populations full of ties and without any, few and many, and a house up to which each is
+    /// tried.
+    fn lists_and_houses() -> Vec<(Vec<u64>, u64)> {
+        let mut random = numbers(1);
+        let mut lists = Vec::new();
+        for code in 0..5u64.pow(4) {
+            let list: Vec<u64> = (0..4).map(|k| 1 + code / 5u64.pow(k) % 5).collect();
+            let sum = list.iter().sum::<u64>();
+            lists.push((list, 2 * sum + 1));
+        }
+        for states in [1, 2, 3, 5, 8, 13, 30, 60] {
+            for (most, unit) in [
+                (1, 1),
+                (2, 1),
+                (30, 1),
+                (1_000, 1),
+                (6, 60_060),
+                (30, 60_060),
+                (SUM_LIMIT / states, 1),
+            ] {
+                let list = (0..states).map(|_| (1 + random() % most) * unit);
+                lists.push((list.collect(), 40 + 4 * states));
+            }
+        }
+        // A state with most of the voters, first, in the middle and last.
+        for at in [0, 10, 20] {
+            let mut list = vec![1; 21];
+            list[at] = 1_000;
+            lists.push((list, 300));
+        }
+        lists
+    }
+
+    #[test]
+    fn the_heaps_give_every_seat_as_the_words_say() {
+        for (populations, most) in lists_and_houses() {
+            seat_by_seat(&populations, most, |house, expected| {
+                let seats = within_quota(&populations, house);
+                assert_eq!(seats, expected, "{populations:?} {house}");
+            });
+        }
+    }
+
+    #[test]
+    fn after_every_seat_each_state_is_within_its_quota() {
+        for (populations, most) in lists_and_houses() {
+            let sum: u64 = populations.iter().sum();
+            for house in 1..=most {
+                let seats = within_quota(&populations, house);
+                assert_eq!(seats.iter().sum::<u64>(), house);
+                for (p, a) in populations.iter().zip(seats) {
+                    let share = p * house;
+                    let quota = share / sum..=share.div_ceil(sum);
+                    assert!(quota.contains(&a), "{populations:?} {house}");
+                }
+            }
+        }
+    }
+
+    #[test]
+    fn the_quota_is_kept_where_jeffersons_method_breaks_it() {
+        let populations = [5_117, 4_400, 162, 161, 160];
+        assert_eq!(within_quota(&populations, 100), [52, 44, 2, 1, 1]);
+        let jefferson = first_claims(Method::Jefferson, &populations, 100);
+        assert_eq!(jefferson, [52, 45, 1, 1, 1]);
+    }
+
+    #[test]
+    fn equal_populations_have_their_seats_in_register_order() {
+        for states in 1..10 {
+            for house in 1..40 {
+                let seats = within_quota(&vec![7; states as usize], house);
+                let expected: Vec<u64> = (0..states)
+                    .map(|i| house / states + (i < house % states) as u64)
+                    .collect();
+                assert_eq!(seats, expected);
+            }
+        }
+    }
+
+    #[test]
+    fn of_equal_quotients_too_the_earlier_state_has_the_seat() {
+        // For the second seat both quotients are 2.
+        assert_eq!(within_quota(&[2, 4], 2), [1, 1]);
+        assert_eq!(within_quota(&[4, 2], 2), [2, 0]);
+        assert_eq!(within_quota(&[1, 1, 5, 1], 4), [1, 0, 3, 0]);
+        assert_eq!(within_quota(&[1, 1, 5, 1], 6), [1, 1, 4, 0]);
+    }
+
+    #[test]
+    fn the_quota_method_at_the_limits() {
+        let mut random = numbers(2);
+        let mut spread: Vec<u64> = (0..STATES_LIMIT)
+            .map(|_| 1 + random() % (1 << (8 + random() % 15)))
+            .collect();
+        spread[STATES_LIMIT / 3] += SUM_LIMIT - spread.iter().sum::<u64>();
+        let mut giant = vec![1; STATES_LIMIT];
+        giant[STATES_LIMIT - 1] += SUM_LIMIT - STATES_LIMIT as u64;
+        let least = SUM_LIMIT / STATES_LIMIT as u64;
+        let pairs: Vec<u64> = (0..STATES_LIMIT as u64).map(|i| least - i % 2).collect();
+        for populations in [spread, giant, pairs] {
+            assert_eq!(check_problem(&populations, HOUSE_LIMIT), Ok(()));
+            seat_by_seat(&populations, HOUSE_LIMIT, |house, expected| {
+                if [1, 799, 800, 801, HOUSE_LIMIT - 1, HOUSE_LIMIT].contains(&house) {
+                    assert_eq!(within_quota(&populations, house), expected, "{house}");
+                }
+            });
+        }
+        assert_eq!(within_quota(&[SUM_LIMIT], HOUSE_LIMIT), [HOUSE_LIMIT]);
     }
 
     #[test]

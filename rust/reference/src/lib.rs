@@ -36,7 +36,7 @@ pub(crate) fn refusal(number: u64) -> Refusal {
     Refusal { number, line: 0 }
 }
 
-/// The seven methods, in the order in which the document names them.
+/// The eight methods, in the order in which the document names them and the requests add to them.
 #[derive(Clone, Copy, Debug, PartialEq, Eq)]
 pub enum Method {
     Leximin,
@@ -46,10 +46,11 @@ pub enum Method {
     Webster,
     Jefferson,
     Remainders,
+    Quota,
 }
 
 impl Method {
-    pub const ALL: [Method; 7] = [
+    pub const ALL: [Method; 8] = [
         Method::Leximin,
         Method::Adams,
         Method::Dean,
@@ -57,6 +58,7 @@ impl Method {
         Method::Webster,
         Method::Jefferson,
         Method::Remainders,
+        Method::Quota,
     ];
 
     /// The method's name in a register.
@@ -69,6 +71,7 @@ impl Method {
             Method::Webster => "webster",
             Method::Jefferson => "jefferson",
             Method::Remainders => "remainders",
+            Method::Quota => "quota",
         }
     }
 

@@ -1,4 +1,5 @@
-//! The examples and traps of document 01, and the refusals it words, one test for each.
+//! The examples and traps of document 01 and its change requests, and the refusals that they word,
+//! one test for each.
 
 use reference::Method::*;
 use reference::*;
@@ -58,6 +59,36 @@ fn other_methods() {
     assert_eq!(seats(Webster, 2, &[1, 99]), [0, 2]);
     assert_eq!(seats(Adams, 2, &[1, 99]), [1, 1]);
     assert_eq!(seats(Remainders, 2, &[1, 3]), [0, 2]);
+    assert_eq!(seats(Quota, 2, &[1, 99]), [0, 2]);
+    assert_eq!(seats(Quota, 20, &[26, 27, 28, 29, 91]), [2, 2, 3, 3, 10]);
+}
+
+#[test]
+fn quota_stays_within_the_quota() {
+    // The shares are 51.17, 44 and 1.62, 1.61, 1.60 seats; without the quota the second state
+    // would have 45, and the third 1.
+    let populations = [5_117, 4_400, 162, 161, 160];
+    assert_eq!(seats(Quota, 100, &populations), [52, 44, 2, 1, 1]);
+    assert_eq!(seats(Jefferson, 100, &populations), [52, 45, 1, 1, 1]);
+    let sum: u64 = populations.iter().sum();
+    for house in 1..=1_000 {
+        for (p, a) in populations.iter().zip(seats(Quota, house, &populations)) {
+            assert!(p * house / sum <= a && a <= (p * house).div_ceil(sum));
+        }
+    }
+}
+
+#[test]
+fn quota_gives_a_seat_more_with_each_house() {
+    let populations = [1, 1, 5, 1, 3, 6, 6];
+    let mut before = vec![0; populations.len()];
+    for house in 1..=50 {
+        let after = seats(Quota, house, &populations);
+        let gained = before.iter().zip(&after).filter(|(a, b)| a != b);
+        let gained: Vec<(&u64, &u64)> = gained.collect();
+        assert!(matches!(gained[..], [(a, b)] if a + 1 == *b), "{house}");
+        before = after;
+    }
 }
 
 #[test]
@@ -105,7 +136,7 @@ fn allotting_is_refused_in_the_order_of_the_document() {
     for method in [Leximin, Adams, Dean, Hill] {
         assert_eq!(refused(method, 2, &[5, 5, 5], 3), 15);
     }
-    for method in [Webster, Jefferson, Remainders] {
+    for method in [Webster, Jefferson, Remainders, Quota] {
         assert_eq!(seats(method, 2, &[5, 5, 5]), [1, 1, 0]);
     }
 }
@@ -337,6 +368,30 @@ fn a_register_is_read() {
 }
 
 #[test]
+fn every_method_has_its_word() {
+    let words = [
+        "leximin",
+        "adams",
+        "dean",
+        "hill",
+        "webster",
+        "jefferson",
+        "remainders",
+        "quota",
+    ];
+    assert_eq!(Method::ALL.map(Method::name), words);
+    for (method, word) in Method::ALL.into_iter().zip(words) {
+        let register = ones(word, 3, 2);
+        assert_eq!(read(register.as_bytes()).unwrap().method, method);
+        let capital = word[..1].to_uppercase() + &word[1..];
+        for near in [&word[1..], &word[..word.len() - 1], &capital] {
+            assert_eq!(refused(&ones(near, 3, 2)), (4, 1), "{near}");
+        }
+        assert_eq!(refused(&ones(&format!("{word}s"), 3, 2)), (4, 1));
+    }
+}
+
+#[test]
 fn limits_of_the_document() {
     assert_eq!((HOUSE_LIMIT, STATES_LIMIT), (30_000, 800));
     let register = ones("adams", HOUSE_LIMIT, STATES_LIMIT);
@@ -358,6 +413,8 @@ fn limits_of_the_document() {
     assert!(read(house_below_states.as_bytes()).is_ok());
     let refusal = listing(house_below_states.as_bytes()).unwrap_err();
     assert_eq!((refusal.number, refusal.line), (15, 0));
+    let listed = listing(ones("quota", 2, 3).as_bytes()).unwrap();
+    assert!(listed.ends_with(b"s2,1,0,none,none\ntotal,3,2\n"));
 }
 
 #[test]
@@ -477,6 +534,20 @@ fn the_listing_of_the_document() {
          D,29,3,-3.814,in\n\
          E,91,8,13.184,high\n\
          total,201,20\n"
+    );
+}
+
+#[test]
+fn a_listing_of_the_quota_method() {
+    assert_eq!(
+        listed("register,quota,100,5\nA,5117\nB,4400\nC,162\nD,161\nE,160\ntotal,10000\n"),
+        "allotment,quota,100,5\n\
+         A,5117,52,-1.596,in\n\
+         B,4400,44,0.000,in\n\
+         C,162,2,-19.000,over\n\
+         D,161,1,61.000,over\n\
+         E,160,1,60.000,over\n\
+         total,10000,100\n"
     );
 }
 

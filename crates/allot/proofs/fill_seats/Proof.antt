@@ -32,6 +32,12 @@ enum-told-2 c = search needs
 fill-remainders-requires : tie.Need-fill-remainders-requires
 fill-remainders-requires c κs = search needs
 
+enum-told-3 : tie.Need-enum-told-3
+enum-told-3 c = search needs
+
+fill-quota-requires : tie.Need-fill-quota-requires
+fill-quota-requires c κs = search needs
+
 same-length : tie.Need-same-length
 same-length c = search needs
 
@@ -71,6 +77,19 @@ returns-3 c =
     (at-fill-remainders .fill-remainders .ensures)
     refl
 
+same-length-4 : tie.Need-same-length-4
+same-length-4 c = search needs
+
+returns-4 : tie.Need-returns-4
+returns-4 c =
+    let at-fill-quota = c .before .before in
+    let at-enum-told3 = at-fill-quota .before .before in
+    let at-way-of = at-enum-told3 .before .before in
+    let start = at-way-of .before .before .before in
+    filled-as-found (start .args .method) _ _ (at-way-of .way-of .ensures) (at-enum-told3 .enum-told3 .given .1)
+    (at-fill-quota .fill-quota .ensures)
+    refl
+
 pub fill-seats-spec : {M : Type 1} → statement M
 fill-seats-spec =
     tie.close
@@ -82,9 +101,13 @@ fill-seats-spec =
     fill-divisor-requires
     enum-told-2
     fill-remainders-requires
+    enum-told-3
+    fill-quota-requires
     same-length
     returns
     same-length-2
     returns-2
     same-length-3
-    returns-3)
+    returns-3
+    same-length-4
+    returns-4)

@@ -26,6 +26,9 @@ enum-told-6 c = search needs
 enum-told-7 : tie.Need-enum-told-7
 enum-told-7 c = search needs
 
+enum-told-8 : tie.Need-enum-told-8
+enum-told-8 c = search needs
+
 returns : tie.Need-returns
 unfolding wayOf
 returns c = rw (c .enum-told .given .1)
@@ -54,6 +57,10 @@ returns-7 : tie.Need-returns-7
 unfolding wayOf
 returns-7 c = rw (c .enum-told7 .given .1)
 
+returns-8 : tie.Need-returns-8
+unfolding wayOf
+returns-8 c = rw (c .enum-told8 .given .1)
+
 pub way-of-spec : {M : Type 1} → statement M
 way-of-spec =
     tie.close
@@ -65,10 +72,12 @@ way-of-spec =
     enum-told-5
     enum-told-6
     enum-told-7
+    enum-told-8
     returns
     returns-2
     returns-3
     returns-4
     returns-5
     returns-6
-    returns-7)
+    returns-7
+    returns-8)

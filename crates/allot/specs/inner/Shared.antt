@@ -11,6 +11,7 @@ use Rattle.apportionment.specs.inner.Lists.{length-listOf}
 use Rattle.apportionment.specs.Leximin.{leximinFor, gap}
 use Rattle.apportionment.specs.Divisor.{weightOf, divisorSeats}
 use Rattle.apportionment.specs.Remainders.{remainderSeats, remainderSeatsAt}
+use Rattle.apportionment.specs.Quota.{quotaSeats}
 use Rattle.apportionment.specs.Allotment.{seatsOf}
 use Rattle.apportionment.specs.declared.DivisorMethod.{DivisorMethod}
 use Rattle.apportionment.specs.declared.Method.{Method}
@@ -21,6 +22,8 @@ use Rattle.claims.specs.inner.SizeClaims.{problem-positive}
 use Rattle.claims.specs.inner.LeximinSteps.{moved-standing, moved-total, last-step-leximin, total-at-gap}
 use Rattle.problem.specs.inner.Passed.{Allottable}
 use Rattle.remainders.specs.inner.House.{seats-sum-to-house}
+use Rattle.quota.specs.inner.Serving.{problem-peopled}
+use Rattle.quota.specs.inner.Quota.{quota-long, quota-sum}
 use Rattle.allot.specs.inner.Ways.{wayOf, seatsBy, filled-by-way, leximin-seats-every-state}
 use Rattle.allot.specs.declared.Way.{Way}
 use Rattle.allot.specs.declared.Way.the-variants.{Divisor}
@@ -55,11 +58,15 @@ unfolding remainderSeats
 remainders-shared ps H ok =
     record { states = length-listOf (remainderSeatsAt ps H) (length ps); whole = seats-sum-to-house ok }
 
+quota-shared : (ps : List ℕ) (H : ℕ) → Problem ps (sum ps) H → Shared (length ps) H (quotaSeats ps H)
+quota-shared ps H ok = record { states = quota-long (problem-peopled ok) H; whole = quota-sum (problem-peopled ok) H }
+
 way-shared : (way : Way) (ps : List ℕ) (H : ℕ) → Problem ps (sum ps) H → (way ≡ Way.Leximin → length ps ≤ H)
     → Shared (length ps) H (seatsBy way ps H)
 way-shared Way.Leximin ps H ok fits = leximin-shared ps H ok (fits refl)
 way-shared (Divisor m) ps H ok fits = divisor-shared m ps H ok
 way-shared Way.Remainders ps H ok fits = remainders-shared ps H ok
+way-shared Way.Quota ps H ok fits = quota-shared ps H ok
 
 pub allotment-shared : (m : Method) (H : ℕ) (ps : List ℕ) (room : ℕ) → Allottable m H ps room → Shared (length ps) H (seatsOf m ps H)
 allotment-shared m H ps room ok =

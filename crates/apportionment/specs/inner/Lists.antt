@@ -8,9 +8,9 @@ use native.Mathlib.Omega.{arith}
 use native.Mathlib.Nat.{add-mul, suc-mul, zero-mul, mul-zero, mul-one}
 use native.Mathlib.Numerals.{add-one}
 use lib.Dec.{leb, eqb}
-use lib.ListN.{length, getD, length-map}
+use lib.ListN.{length, getD, take, replicate, length-map}
 use lib.Seq.{ext-getD}
-use borrow.Author.Tests.{eq-eqb, eqb-true, leb-true, leb-false}
+use borrow.Author.Tests.{eq-eqb, eqb-true, eqb-false, leb-true, leb-false}
 use Rattle.apportionment.specs.Lists.{sum, sameList, countBelow, listOf}
 use Rattle.apportionment.specs.inner.Tests.{cond-both, either-way}
 
@@ -22,6 +22,23 @@ unfolding sum
 entry-at-most-sum [] i = omega arith
 entry-at-most-sum (x ∷ xs) zero = omega arith
 entry-at-most-sum (x ∷ xs) (suc i) = omega (arith, entry-at-most-sum xs i)
+
+-- A list of zeros.
+pub sum-zeros : (n : ℕ) → sum (replicate n 0) ≡ 0
+unfolding sum
+sum-zeros zero = refl
+sum-zeros (suc n) = omega (arith, sum-zeros n)
+
+pub sum-first-zeros : (k n : ℕ) → sum (take k (replicate n 0)) ≡ 0
+unfolding sum
+sum-first-zeros zero n = refl
+sum-first-zeros (suc k) zero = refl
+sum-first-zeros (suc k) (suc n) = omega (arith, sum-first-zeros k n)
+
+pub zeros-at : (n i : ℕ) → _≡_ {A = ℕ} (getD (replicate n 0) i 0) 0
+zeros-at zero i = refl
+zeros-at (suc n) zero = refl
+zeros-at (suc n) (suc i) = zeros-at n i
 
 pub same-list-self : (xs : List ℕ) → sameList xs xs ≡ true
 unfolding sameList
@@ -114,6 +131,31 @@ pub sum-listOf-both : (f g : ℕ → ℕ) (n : ℕ) → sum (listOf (λ (i : ℕ
 unfolding sum listOf
 sum-listOf-both f g zero = refl
 sum-listOf-both f g (suc n) = omega (arith, sum-listOf-both (λ (i : ℕ). f (suc i)) (λ (i : ℕ). g (suc i)) n)
+
+pub sum-listOf-times : (f : ℕ → ℕ) (c n : ℕ) → sum (listOf (λ (i : ℕ). f i * c) n) ≡ sum (listOf f n) * c
+unfolding sum listOf
+sum-listOf-times f c zero = sym (zero-mul c)
+sum-listOf-times f c (suc n) = simp add-mul (omega (arith, sum-listOf-times (λ (i : ℕ). f (suc i)) c n))
+
+-- Numbers that are at most others, place by place, sum to no more; and to less where one of them is less.
+pub sum-listOf-at-most : (f g : ℕ → ℕ) (n : ℕ) → ((i : ℕ) → i < n → f i ≤ g i) → sum (listOf f n) ≤ sum (listOf g n)
+sum-listOf-at-most f g zero h = rw (sum-listOf-none f) (omega arith)
+sum-listOf-at-most f g (suc n) h =
+    let rest = sum-listOf-at-most f g n (λ (i : ℕ) (l : i < n). h i (omega arith)) in
+    omega (arith, sum-listOf-suc f n, sum-listOf-suc g n, h n (omega arith))
+
+pub sum-listOf-less : (f g : ℕ → ℕ) (n : ℕ) → ((i : ℕ) → i < n → f i ≤ g i) → (j : ℕ) → j < n → f j < g j
+    → sum (listOf f n) < sum (listOf g n)
+sum-listOf-less f g zero h j within less = absurd (omega arith)
+sum-listOf-less f g (suc n) h j within less =
+    let below : (i : ℕ) → i < n → f i ≤ g i = λ (i : ℕ) (l : i < n). h i (omega arith) in
+    either-way (eqb j n)
+    (λ e.
+    let here : f n < g n = rw (eqb-true j n e) at less in
+    omega (arith, sum-listOf-suc f n, sum-listOf-suc g n, sum-listOf-at-most f g n below))
+    (λ e.
+    let rest = sum-listOf-less f g n below j (omega (arith, eqb-false j n e)) less in
+    omega (arith, sum-listOf-suc f n, sum-listOf-suc g n, h n (omega arith)))
 
 -- The same number at every place.
 pub sum-listOf-constant : (c n : ℕ) → sum (listOf (λ _. c) n) ≡ n * c

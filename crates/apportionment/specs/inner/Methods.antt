@@ -17,7 +17,7 @@ use Rattle.apportionment.specs.Methods.{methods, methodText, methodNumbe
 use Rattle.apportionment.specs.inner.Lists.{same-list-equal}
 use Rattle.apportionment.specs.inner.Tests.{either-way}
 use Rattle.apportionment.specs.declared.Method.{Method}
-use Rattle.apportionment.specs.declared.Method.the-variants.{Leximin, Adams, Dean, Hill, Webster, Jefferson, Remainders}
+use Rattle.apportionment.specs.declared.Method.the-variants.{Leximin, Adams, Dean, Hill, Webster, Jefferson, Remainders, Quota}
 
 -- ---- numbers
 
@@ -30,6 +30,7 @@ number-names-method Hill = refl
 number-names-method Webster = refl
 number-names-method Jefferson = refl
 number-names-method Remainders = refl
+number-names-method Quota = refl
 
 -- What stands at a place of a list does not hang on what would be read past its end.
 entry-whatever-the-end : {A : Type 0} (xs : List A) (n : ℕ) (d e : A) → n < length xs → getD xs n d ≡ getD xs n e
@@ -38,11 +39,11 @@ entry-whatever-the-end (x ∷ xs) zero d e within = refl
 entry-whatever-the-end (x ∷ xs) (suc n) d e within = entry-whatever-the-end xs n d e (omega arith)
 
 pub method-in-list : (n : ℕ) (d : Method) → n ≤ lastMethod → getD methods n d ≡ methodAt n
-method-in-list n d within = entry-whatever-the-end methods n d Remainders (omega arith)
+method-in-list n d within = entry-whatever-the-end methods n d Quota (omega arith)
 
 -- The methods from a number on: its own, and those after it.
 pub methods-from : (n : ℕ) → n ≤ lastMethod → drop n methods ≡ methodAt n ∷ drop (n + 1) methods
-methods-from n within = rw (add-one, drop-cons methods n Remainders (omega arith))
+methods-from n within = rw (add-one, drop-cons methods n Quota (omega arith))
 
 -- ---- tests of every method
 
@@ -59,17 +60,17 @@ pass-at test (m ∷ ms) (suc n) last all end =
     either-way (test m) (λ e. pass-at test ms n last (rw e at all) end) (λ e. absurd (false≢true (rw e at all)))
 
 -- A test that each method of the list passes, the last one once more, every method passes.
-pub every-method : (test : Method → Bool) → allPass test methods ≡ true → test Remainders ≡ true → (m : Method) → test m ≡ true
-every-method test all end m = rw (number-names-method m) at (pass-at test methods (methodNumber m) Remainders all end)
+pub every-method : (test : Method → Bool) → allPass test methods ≡ true → test Quota ≡ true → (m : Method) → test m ≡ true
+every-method test all end m = rw (number-names-method m) at (pass-at test methods (methodNumber m) Quota all end)
 
 -- ---- the table of words
 
 -- The words of the methods, one after the other, and where each starts; the last entry is the end.
 abbrev pub wordTable : List ℕ
-wordTable = bytesOf "leximinadamsdeanhillwebsterjeffersonremainders"
+wordTable = bytesOf "leximinadamsdeanhillwebsterjeffersonremaindersquota"
 
 abbrev pub wordStarts : List ℕ
-wordStarts = 0 ∷ 7 ∷ 12 ∷ 16 ∷ 20 ∷ 27 ∷ 36 ∷ 46 ∷ []
+wordStarts = 0 ∷ 7 ∷ 12 ∷ 16 ∷ 20 ∷ 27 ∷ 36 ∷ 46 ∷ 51 ∷ []
 
 -- Where the word of a method starts, and where it ends.
 abbrev pub wordStart : Method → ℕ

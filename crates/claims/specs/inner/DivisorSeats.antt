@@ -9,7 +9,7 @@ use native.Mathlib.Nat.{le-of-eq, le-trans, le-refl, not-suc-le-zero, mul-le-mul
 use native.Mathlib.Omega.{arith}
 use lib.ListN.{length, getD, set, replicate, length-replicate, getD-replicate}
 use Rattle.apportionment.specs.Lists.{sum}
-use Rattle.apportionment.specs.inner.Lists.{entry-at-most-sum, map-bounded}
+use Rattle.apportionment.specs.inner.Lists.{entry-at-most-sum, map-bounded, sum-zeros}
 use Rattle.apportionment.specs.Quantities.{Fraction, less}
 use Rattle.apportionment.specs.Divisor.{weightOf, claimBefore, firstClaim, claimsMet, divisorSeats}
 use Rattle.apportionment.specs.declared.DivisorMethod.{DivisorMethod}
@@ -21,11 +21,6 @@ use Rattle.claims.specs.inner.DivisorOrder.{divisor-order}
 use Rattle.claims.specs.inner.DivisorRounding.{signposts-increase, weight-positive, methodClaim}
 
 -- ---- the claims met in order
-
-sum-zeros : (n : ℕ) → sum (replicate n 0) ≡ 0
-unfolding sum
-sum-zeros zero = refl
-sum-zeros (suc n) = omega (arith, sum-zeros n)
 
 module _ {d : ℕ → Fraction} {n : ℕ} {w : ℕ → ℕ} (inc : Increasing d) (weighs : (i : ℕ) → i < n → 0 < w i) (some : 0 < n) where
   -- Before any claim is met there is none to come before another.

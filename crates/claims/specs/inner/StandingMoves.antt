@@ -64,7 +64,7 @@ at-oneLess xs i j h = by-place (ℕ-discrete j i)
     by-place (no other) = inr (other, getD-oneLess-other xs i j other)
 
 -- A store changes the sum by what it changes at its place.
-sum-set : (xs : List ℕ) (i v : ℕ) → i < length xs → sum (set xs i v) + getD xs i 0 ≡ sum xs + v
+pub sum-set : (xs : List ℕ) (i v : ℕ) → i < length xs → sum (set xs i v) + getD xs i 0 ≡ sum xs + v
 unfolding sum
 sum-set [] i v h = absurd (not-suc-le-zero h)
 sum-set (x ∷ xs) zero v h = omega arith

@@ -11,7 +11,7 @@ use Rattle.apportionment.specs.Remainders.{wholePart}
 use Rattle.apportionment.specs.inner.Lists.{sum-listOf-more}
 use Rattle.apportionment.specs.inner.Problem.{sum-above-zero}
 use Rattle.apportionment.specs.inner.Filling.{FilledTo, fill-starts, fill-goes-on, fill-ends}
-use Rattle.remainders.specs.inner.WholeParts.{share-fits, whole-part-is, whole-parts-within}
+use Rattle.apportionment.specs.inner.WholeParts.{share-fits, whole-part-is, whole-parts-within}
 use Rattle.remainders.specs.inner.Precedence.{precedenceOf, precedenceAt, state-share}
 use Rattle.remainders.specs.inner.Seats.{Spans, spans-none, spans-on}
 use Rattle.remainders.proofs.fill_parts.Statement.{statement}

@@ -4,7 +4,7 @@ use mathlib.Core.Path.{_∙_}
 use native.Mathlib.Omega.{arith}
 use lib.ListN.{length}
 use borrow.Author.Needs.{needs}
-use Rattle.remainders.specs.inner.WholeParts.{whole-parts-within}
+use Rattle.apportionment.specs.inner.WholeParts.{whole-parts-within}
 use Rattle.remainders.specs.inner.Seats.{has-room, is-searchable, seats-are-allotted}
 use Rattle.remainders.proofs.fill_with_room.Statement.{statement}
 use Rattle.remainders.proofs.fill_with_room.Tie as tie

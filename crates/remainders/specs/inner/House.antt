@@ -11,7 +11,7 @@ use Rattle.apportionment.specs.Lists.{sum, listOf}
 use Rattle.apportionment.specs.Remainders.{wholePart, seatsLeft, remainderSeats}
 use Rattle.apportionment.specs.inner.Lists.{listOf-places, length-listOf, sum-listOf-none, sum-listOf-more, sum-listOf-both, count-none}
 use Rattle.apportionment.specs.inner.Problem.{Problem}
-use Rattle.remainders.specs.inner.WholeParts.{wholeParts, whole-parts-within, left-within-states}
+use Rattle.apportionment.specs.inner.WholeParts.{wholeParts, whole-parts-within, left-within-states}
 use Rattle.bar.specs.inner.Reaching.{reaches}
 use Rattle.remainders.specs.inner.Precedence.{precedenceAt, precedencesOf, extraIn}
 use Rattle.bar.specs.inner.Reaching.{reaching, Bar, bar-exists}

@@ -20,7 +20,7 @@ use Rattle.apportionment.specs.inner.Problem.{States, Problem, sum-above-zero, 
 use Rattle.apportionment.specs.inner.MachineWords.{product-fits}
 use Rattle.apportionment.specs.inner.Lists.{length-listOf, getD-listOf, count-agrees, count-splits}
 use Rattle.bar.specs.inner.Reaching.{reaches}
-use Rattle.remainders.specs.inner.WholeParts.{share-fits}
+use Rattle.apportionment.specs.inner.WholeParts.{share-fits}
 
 -- What a remainder counts in a precedence: more than any population.
 abbrev pub remainderWeight : ℕ

@@ -15,7 +15,7 @@ use Rattle.apportionment.specs.inner.Lists.{length-listOf, getD-listOf, is-list
 use Rattle.apportionment.specs.inner.Filling.{FilledTo}
 use Rattle.apportionment.specs.inner.Tests.{either-way}
 use Rattle.apportionment.specs.inner.Problem.{States, Problem}
-use Rattle.remainders.specs.inner.WholeParts.{wholeParts, whole-parts-within, left-within-states}
+use Rattle.apportionment.specs.inner.WholeParts.{wholeParts, whole-parts-within, left-within-states}
 use Rattle.remainders.specs.inner.Precedence.{precedenceAt, precedencesOf, extraIn, rank-is, withExtraAt, withExtra}
 use Rattle.bar.specs.inner.Reaching.{all-reach, none-above}
 use Rattle.remainders.specs.inner.Serving.{extraBy, spareAt, no-more-to-spare, served-by-rank}

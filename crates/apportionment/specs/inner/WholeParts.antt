@@ -1,5 +1,4 @@
--- Whole parts: the seats that each state has before the seats that are left go out. Together they are at most the house, and
--- short of it by at most one for each state.
+-- Whole parts: each state's share p H / P rounded down. Together they are at most the house, and short of it by at most one for each state.
 -- Assumes nothing.
 use mathlib.Core.Path.{_≡_}
 use mathlib.Core.List.{List}
