@@ -77,7 +77,9 @@ typedef struct {
 } desk_allotted;
 
 /* Fills the lent seats with the allotment of the house: refusals 10 to 15, among them 14 unless
-   the room is n, and 4 before all else for a number that is no method. */
+   the room is n, and 4 before all else for a number that is no method. Where the same populations
+   are accepted with a house and with one seat more, one state gains a seat and no other state
+   changes, except under leximin and largest remainders, where a state may lose seats. */
 desk_allotted desk_allot(uint64_t method, uint64_t house, const uint64_t *populations, size_t n,
                          uint64_t *seats, size_t room);
 

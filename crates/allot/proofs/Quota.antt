@@ -1,22 +1,21 @@
 -- What a caller of allotting has from its contract under the quota method: the quota is kept, in the seats handed back and after every seat
 -- on the way to them.
 -- Assumes nothing.
-use mathlib.Core.Path.{_≡_, sym, ap, _∙_}
+use mathlib.Core.Path.{_≡_}
 use mathlib.Core.Bool.{true}
 use mathlib.Core.List.{List}
 use Prim.Native.Nat.{ℕ, suc, _<_, _≤_}
-use lib.Dec.{eqb}
 use lib.ListN.{length, getD}
-use borrow.Author.Tests.{eq-eqb}
 use Rattle.apportionment.specs.Lists.{sum}
 use Rattle.apportionment.specs.Refusals.{accepted}
-use Rattle.apportionment.specs.Allotment.{allotRefusal, seatsOf, seatsAfter}
+use Rattle.apportionment.specs.Allotment.{seatsOf}
 use Rattle.apportionment.specs.Quota.{able, quotaSeats, WithinQuota}
 use Rattle.apportionment.specs.declared.Method.the-variants.{Quota}
 use Rattle.problem.specs.inner.Passed.{allot-passed}
 use Rattle.quota.specs.inner.Serving.{Peopled, problem-peopled}
 use Rattle.quota.specs.inner.Quota.{quota-kept, some-able}
-use Rattle.allot.specs.Allot.{allottedOf, AllotmentIs}
+use Rattle.allot.specs.Allot.{AllotmentIs}
+use Rattle.allot.specs.inner.Allot.{seats-unless-refused}
 use Rattle.allot.specs.declared.Allotted.{Allotted}
 
 -- Every state has its quota of the house; it had its quota of h seats after each seat h on the way; and some state was able to have each
@@ -30,12 +29,11 @@ pub record QuotaKept (ps : List ℕ) (H : ℕ) (seats : List ℕ) : Type 0 where
 -- An allotment by quota that was not refused keeps it.
 pub allotted-keeps-quota : {H : ℕ} {ps before after : List ℕ} {r : Allotted} → AllotmentIs Quota H ps before after r
     → r .refusal ≡ accepted → QuotaKept ps H after
-unfolding allottedOf seatsAfter seatsOf
+unfolding seatsOf
 allotted-keeps-quota {H} {ps} {before} {after} {r} promise none =
-    let passed : allotRefusal Quota H ps (length before) ≡ accepted = sym (ap (λ (a : Allotted). a .refusal) (promise .outcome)) ∙ none in
-    let ok : Peopled ps = problem-peopled (allot-passed Quota H ps (length before) passed .problem) in
-    let test : eqb (allotRefusal Quota H ps (length before)) accepted ≡ true = eq-eqb _ _ passed in
-    let seats : after ≡ quotaSeats ps H = promise .seats ∙ rw test in
+    let given = seats-unless-refused promise none in
+    let ok : Peopled ps = problem-peopled (allot-passed Quota H ps (length before) (given .0) .problem) in
+    let seats : after ≡ quotaSeats ps H = given .1 in
     record {
       last = seats;
       kept = λ i hi. rw seats (quota-kept ok H i hi);

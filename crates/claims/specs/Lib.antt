@@ -1,2 +1,3 @@
--- No public promise rests on what this crate defines: its inner contracts' words and its laws are below.
+-- What growth without loss means. The theory's own words and laws are below.
+pub mod Growth
 pub mod inner

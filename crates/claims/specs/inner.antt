@@ -12,6 +12,7 @@ pub mod DivisorClaims
 pub mod DivisorOrder
 pub mod DivisorRounding
 pub mod DivisorSeats
+pub mod Growth
 pub mod SizeClaims
 pub mod SizeTests
 pub mod SizeShape

@@ -29,10 +29,31 @@ pub enum Case {
         total: u64,
         house: u64,
     },
+    /// Allotting a house and one seat more to the same populations.
+    Growth {
+        method: u64,
+        house: u64,
+        populations: Vec<u64>,
+    },
+    /// Allotting one house by two polls of the same states.
+    Polls {
+        method: u64,
+        house: u64,
+        before: Vec<u64>,
+        after: Vec<u64>,
+    },
 }
 
 impl Case {
-    pub const KINDS: [&'static str; 5] = ["register", "allot", "walk", "step", "departure"];
+    pub const KINDS: [&'static str; 7] = [
+        "register",
+        "allot",
+        "walk",
+        "step",
+        "departure",
+        "growth",
+        "polls",
+    ];
 
     /// The case's place among the kinds.
     pub fn kind(&self) -> usize {
@@ -42,6 +63,8 @@ impl Case {
             Case::Walk { .. } => 2,
             Case::Step { .. } => 3,
             Case::Departure { .. } => 4,
+            Case::Growth { .. } => 5,
+            Case::Polls { .. } => 6,
         }
     }
 
@@ -80,6 +103,17 @@ impl Case {
                 total: total.parse().ok()?,
                 house: house.parse().ok()?,
             }),
+            ["growth", method, house, populations] => Some(Case::Growth {
+                method: method.parse().ok()?,
+                house: house.parse().ok()?,
+                populations: parse_list(populations)?,
+            }),
+            ["polls", method, house, before, after] => Some(Case::Polls {
+                method: method.parse().ok()?,
+                house: house.parse().ok()?,
+                before: parse_list(before)?,
+                after: parse_list(after)?,
+            }),
             _ => None,
         }
     }
@@ -115,6 +149,20 @@ impl fmt::Display for Case {
                 total,
                 house,
             } => write!(f, "{population} {seats} {total} {house}"),
+            Case::Growth {
+                method,
+                house,
+                populations,
+            } => write!(f, "{method} {house} {}", show_list(populations)),
+            Case::Polls {
+                method,
+                house,
+                before,
+                after,
+            } => {
+                let (before, after) = (show_list(before), show_list(after));
+                write!(f, "{method} {house} {before} {after}")
+            }
         }
     }
 }

@@ -1,19 +1,35 @@
 //! One case given to both desks. The library's answers come through the C interface, with guards
-//! around everything it is lent; the reference's are put into the same form.
+//! around everything it is lent; the reference's are put into the same form. Where a case is about
+//! growth, the library's seats are held to a law too.
 
+use crate::growth::{self, Poll};
 use crate::Case;
 use desk::ffi;
 use reference::{Mark, Method, Placing, Refusal, Register, STATES_LIMIT};
 use std::fmt::Debug;
 
 /// What a run has seen: inputs by kind, calls to the library, answers by refusal number (0 where
-/// none was given), and placings and allotments compared with the search.
+/// none was given), placings and allotments compared with the search, and what came of the laws of
+/// growth.
 #[derive(Clone, Debug)]
 pub struct Counts {
     pub inputs: [u64; Case::KINDS.len()],
     pub calls: u64,
     pub refusals: [u64; 64],
     pub searched: u64,
+    pub one_seat_more: Outcomes,
+    pub two_polls: Outcomes,
+    /// Pairs of polls in which seats moved from some states to others, under the methods that keep
+    /// the law; where none moves, nothing can break it.
+    pub moved: u64,
+}
+
+/// What came of a law, by method: how often it was held by those that keep it, and how often it was
+/// broken by those that are excepted from it.
+#[derive(Clone, Copy, Debug, Default)]
+pub struct Outcomes {
+    pub held: [u64; Method::ALL.len()],
+    pub broken: [u64; Method::ALL.len()],
 }
 
 impl Default for Counts {
@@ -23,25 +39,57 @@ impl Default for Counts {
             calls: 0,
             refusals: [0; 64],
             searched: 0,
+            one_seat_more: Outcomes::default(),
+            two_polls: Outcomes::default(),
+            moved: 0,
         }
     }
 }
 
 impl Counts {
     pub fn add(&mut self, other: &Counts) {
-        for (mine, more) in self.inputs.iter_mut().zip(other.inputs) {
-            *mine += more;
-        }
-        for (mine, more) in self.refusals.iter_mut().zip(other.refusals) {
-            *mine += more;
-        }
+        add_each(&mut self.inputs, &other.inputs);
+        add_each(&mut self.refusals, &other.refusals);
         self.calls += other.calls;
         self.searched += other.searched;
+        self.one_seat_more.add(&other.one_seat_more);
+        self.two_polls.add(&other.two_polls);
+        self.moved += other.moved;
     }
 
     fn call(&mut self, refusal: u64) {
         self.calls += 1;
         self.refusals[refusal as usize] += 1;
+    }
+}
+
+impl Outcomes {
+    fn add(&mut self, other: &Outcomes) {
+        add_each(&mut self.held, &other.held);
+        add_each(&mut self.broken, &other.broken);
+    }
+
+    /// Takes what came of the law once. Under a method that keeps it, that it does not hold is an
+    /// error.
+    fn take(
+        &mut self,
+        method: Method,
+        keep: &[Method],
+        outcome: Result<(), String>,
+    ) -> Result<(), String> {
+        if keep.contains(&method) {
+            outcome?;
+            self.held[method as usize] += 1;
+        } else if outcome.is_err() {
+            self.broken[method as usize] += 1;
+        }
+        Ok(())
+    }
+}
+
+fn add_each(mine: &mut [u64], more: &[u64]) {
+    for (mine, more) in mine.iter_mut().zip(more) {
+        *mine += more;
     }
 }
 
@@ -59,7 +107,7 @@ pub fn check(case: &Case, counts: &mut Counts) -> Result<(), String> {
             house,
             room,
             populations,
-        } => check_allot(*method, *house, populations, *room, counts),
+        } => check_allot(*method, *house, populations, *room, counts).map(|_| ()),
         Case::Walk { house, populations } => check_walk(populations, *house, counts),
         Case::Step { placing } => check_step(placing, counts),
         &Case::Departure {
@@ -68,6 +116,17 @@ pub fn check(case: &Case, counts: &mut Counts) -> Result<(), String> {
             total,
             house,
         } => check_departure(population, seats, total, house, counts),
+        Case::Growth {
+            method,
+            house,
+            populations,
+        } => check_growth(*method, *house, populations, counts),
+        Case::Polls {
+            method,
+            house,
+            before,
+            after,
+        } => check_polls(*method, *house, before, after, counts),
     }
 }
 
@@ -240,13 +299,14 @@ fn check_listing(bytes: &[u8], room: usize, counts: &mut Counts) -> Result<(), S
 
 // ---- Allotting
 
+/// Hands back the library's seats, if it was not refused.
 fn check_allot(
     method: u64,
     house: u64,
     populations: &[u64],
     room: usize,
     counts: &mut Counts,
-) -> Result<(), String> {
+) -> Result<Option<Vec<u64>>, String> {
     let mut written = Lent::to_fill(room, junk_number);
     let answer = match Method::ALL.get(method as usize) {
         Some(&method) => reference::allot(method, house, populations, written.middle())
@@ -275,10 +335,13 @@ fn check_allot(
     same("desk_allot", &expected, &found)?;
     same("populations after desk_allot", &before, &lent.whole)?;
     same("seats after desk_allot", &written.whole, &seats.whole)?;
-    if method == 0 && found.refusal == 0 {
+    if found.refusal != 0 {
+        return Ok(None);
+    }
+    if method == 0 {
         check_search(populations, house, house, seats.middle(), counts)?;
     }
-    Ok(())
+    Ok(Some(seats.middle().to_vec()))
 }
 
 /// For a small problem, the seats have to be those that the search through every allotment finds.
@@ -307,6 +370,62 @@ fn allotments(states: u64, total: u64) -> u64 {
         }
     }
     ways
+}
+
+// ---- Growth
+
+/// A house and one seat more, where there is such a house: each as an allotment by itself, and if
+/// neither is refused, the law.
+fn check_growth(
+    method: u64,
+    house: u64,
+    populations: &[u64],
+    counts: &mut Counts,
+) -> Result<(), String> {
+    let mut allotted = |house| check_allot(method, house, populations, populations.len(), counts);
+    let smaller = allotted(house)?;
+    let larger = match house.checked_add(1) {
+        Some(larger) => allotted(larger)?,
+        None => None,
+    };
+    let (Some(smaller), Some(larger)) = (smaller, larger) else {
+        return Ok(());
+    };
+    let outcome = growth::one_seat_more(&smaller, &larger);
+    let (method, keep) = (accepted(method), &growth::ONE_SEAT_MORE);
+    counts.one_seat_more.take(method, keep, outcome)
+}
+
+/// Two polls at one house: each as an allotment by itself, and if neither is refused and they have
+/// as many states, the law.
+fn check_polls(
+    method: u64,
+    house: u64,
+    before: &[u64],
+    after: &[u64],
+    counts: &mut Counts,
+) -> Result<(), String> {
+    let mut allotted = |polled: &[u64]| check_allot(method, house, polled, polled.len(), counts);
+    let seats = (allotted(before)?, allotted(after)?);
+    let (Some(seats_before), Some(seats_after)) = seats else {
+        return Ok(());
+    };
+    if before.len() != after.len() {
+        return Ok(());
+    }
+    let poll = |counts, seats| Poll { counts, seats };
+    let outcome = growth::two_polls(poll(before, &seats_before), poll(after, &seats_after));
+    let (method, keep) = (accepted(method), &growth::TWO_POLLS);
+    counts.two_polls.take(method, keep, outcome)?;
+    if keep.contains(&method) {
+        counts.moved += (seats_before != seats_after) as u64;
+    }
+    Ok(())
+}
+
+/// The method of an allotment that was not refused.
+fn accepted(method: u64) -> Method {
+    Method::ALL[method as usize]
 }
 
 // ---- Placings
@@ -428,4 +547,33 @@ fn check_departure(
     let found = unsafe { ffi::desk_departure(population, seats, total, house) };
     counts.call(refusal);
     same("desk_departure", &expected, &found)
+}
+
+#[cfg(test)]
+mod tests {
+    use super::*;
+
+    #[test]
+    fn a_broken_law_is_an_error_but_under_methods_that_are_excepted() {
+        let laws: [&[Method]; 2] = [&growth::ONE_SEAT_MORE, &growth::TWO_POLLS];
+        for (law, kept) in laws.into_iter().zip([6, 5]) {
+            let mut outcomes = Outcomes::default();
+            let mut errors = 0;
+            for method in Method::ALL {
+                assert_eq!(outcomes.take(method, law, Ok(())), Ok(()));
+            }
+            assert_eq!(outcomes.broken, [0; 8]);
+            for method in Method::ALL {
+                let taken = outcomes.take(method, law, Err("broken".to_string()));
+                errors += taken.is_err() as u64;
+            }
+            assert_eq!(errors, kept);
+            assert_eq!(outcomes.held.iter().sum::<u64>(), kept);
+            for (held, broken) in outcomes.held.iter().zip(outcomes.broken) {
+                assert_eq!(held + broken, 1);
+            }
+            assert_eq!(outcomes.broken[Method::Leximin as usize], 1);
+            assert_eq!(outcomes.broken[Method::Remainders as usize], 1);
+        }
+    }
 }

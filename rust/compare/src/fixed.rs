@@ -1,9 +1,10 @@
 //! Inputs that every run begins with: the document's examples, departures that are hard to round,
 //! the limits, equal quotients at the largest seats, the quota method at every house of some
-//! problems and at the limits, the longest registers, and one register cut, changed, filled and
-//! thinned at every byte.
+//! problems and at the limits, one seat more and two polls, the longest registers, and one register
+//! cut, changed, filled and thinned at every byte.
 
 use crate::damage::{self, Draft};
+use crate::growth::ONE_SEAT_MORE;
 use crate::random::Random;
 use crate::{seeded, Case, METHODS, MOST_STATES};
 use reference::{Method, Placing, BYTES_LIMIT, HOUSE_LIMIT, STATES_LIMIT, SUM_LIMIT};
@@ -20,6 +21,9 @@ pub fn fixed(seed: u64) -> Vec<Case> {
     cases.extend(every_house());
     cases.extend(quota_limits());
     cases.extend(quota_words());
+    cases.extend(one_seat_more());
+    cases.extend(one_seat_more_limits());
+    cases.extend(two_polls());
     cases.extend(longest_walk());
     cases.extend(longest_registers(random));
     cases.extend(alike(random));
@@ -333,10 +337,6 @@ fn quota_limits() -> Vec<Case> {
     let limit = SUM_LIMIT / MOST_STATES;
     let places = 0..MOST_STATES;
     let pairs: Vec<u64> = places.clone().map(|i| limit - (i + 1) % 2).collect();
-    let units: Vec<u64> = places
-        .clone()
-        .map(|i| limit / 12 * (i * 7 % 12 + 1))
-        .collect();
     // From 35 to 40 seats each, of so many voters; the first state has what is left to the house.
     let seat = SUM_LIMIT / HOUSE_LIMIT;
     let mut whole: Vec<u64> = places.map(|i| seat * (35 + i * 5 % 6)).collect();
@@ -345,12 +345,18 @@ fn quota_limits() -> Vec<Case> {
     let mut any: Vec<u64> = (0..MOST_STATES).map(|_| 1 + random.bits(22)).collect();
     any[STATES_LIMIT / 3] += SUM_LIMIT - any.iter().sum::<u64>();
     let mut cases = Vec::new();
-    for populations in [giant(), pairs, units, whole, any] {
+    for populations in [giant(), pairs, units(), whole, any] {
         for house in [400, MOST_STATES, 7_777, HOUSE_LIMIT - 1, HOUSE_LIMIT] {
             cases.push(allot(Method::Quota as u64, house, &populations));
         }
     }
     cases
+}
+
+/// As many states as can be, of sizes from one to twelve units.
+fn units() -> Vec<u64> {
+    let unit = SUM_LIMIT / MOST_STATES / 12;
+    (0..MOST_STATES).map(|i| unit * (i * 7 % 12 + 1)).collect()
 }
 
 /// Registers of the quota method whose method field is its word, or that word with one byte cut,
@@ -363,6 +369,88 @@ fn quota_words() -> Vec<Case> {
         bytes: [b"register,", &word[..], b",3,2\nA,1\nB,2\ntotal,3\n"].concat(),
     };
     words.map(register).collect()
+}
+
+/// One seat more: what leximin and largest remainders are excepted for, a house below the states and
+/// the largest, under every method; then every house from 1 on for two short lists, so that each
+/// seat shows by itself.
+fn one_seat_more() -> Vec<Case> {
+    let mut cases = Vec::new();
+    for (house, populations) in [
+        (14, vec![69, 70, 150]),
+        (3, vec![1, 3, 3]),
+        (2, vec![3, 1, 3]),
+        (HOUSE_LIMIT, vec![2, 3]),
+    ] {
+        for method in Method::ALL {
+            cases.push(growth(method, house, &populations));
+        }
+    }
+    for populations in SHORT_LISTS {
+        for house in 1..=40 {
+            for method in ONE_SEAT_MORE {
+                cases.push(growth(method, house, populations));
+            }
+        }
+    }
+    cases
+}
+
+/// States that are equal and states that want a seat by the same quotient: in the first list under
+/// every method but Dean, in the second under Dean.
+const SHORT_LISTS: [&[u64]; 2] = [&[6, 3, 2, 6, 1, 3], &[28, 9, 5, 9, 5]];
+
+/// A house and one seat more.
+fn growth(method: Method, house: u64, populations: &[u64]) -> Case {
+    Case::Growth {
+        method: method as u64,
+        house,
+        populations: populations.to_vec(),
+    }
+}
+
+/// The last seat of the largest house for as many states as can be: a giant among states of one
+/// voter, equal states, and states of sizes from one to twelve units, which have equal quotients all
+/// along.
+fn one_seat_more_limits() -> Vec<Case> {
+    let equal = vec![SUM_LIMIT / MOST_STATES; STATES_LIMIT];
+    let mut cases = Vec::new();
+    for populations in [giant(), equal, units()] {
+        for method in ONE_SEAT_MORE {
+            cases.push(growth(method, HOUSE_LIMIT - 1, &populations));
+        }
+    }
+    cases
+}
+
+/// Two polls at one house, under every method: all counts doubled, of different states, of equal
+/// ones and of such as want a seat by the same quotient; all doubled but one that has grown more,
+/// where a seat moves that states want by the same quotient under Dean or Hill; one state grown by a
+/// voter; and what quota, leximin and largest remainders are excepted for.
+fn two_polls() -> Vec<Case> {
+    let polls: [(u64, &[u64], &[u64]); 9] = [
+        (14, &[69, 70, 150], &[138, 140, 300]),
+        (3, &[1, 1], &[2, 2]),
+        (7, &[3, 6, 3, 6], &[6, 12, 6, 12]),
+        (14, &[5, 9, 28, 9, 5], &[10, 18, 56, 18, 15]),
+        (20, &[1, 6, 1, 6], &[2, 12, 3, 12]),
+        (5, &[10, 10, 10, 10], &[10, 11, 10, 10]),
+        (3, &[1, 1, 4], &[2, 1, 7]),
+        (7, &[1, 2, 7], &[3, 3, 10]),
+        (3, &[2, 2, 5], &[3, 1, 3]),
+    ];
+    let mut cases = Vec::new();
+    for (house, before, after) in polls {
+        for method in Method::ALL {
+            cases.push(Case::Polls {
+                method: method as u64,
+                house,
+                before: before.to_vec(),
+                after: after.to_vec(),
+            });
+        }
+    }
+    cases
 }
 
 /// One state has all voters but one for each other, and gives up a seat at every step: the longest
@@ -525,6 +613,36 @@ mod tests {
             assert_eq!(rising, falling);
             assert_eq!(rising.iter().sum::<u64>(), HOUSE_LIMIT - 1);
         }
+    }
+
+    /// Whether the seats hang on the order of the register.
+    fn has_ties(method: Method, house: u64, populations: &[u64]) -> bool {
+        let mut seats = vec![0; populations.len()];
+        reference::allot(method, house, populations, &mut seats).unwrap();
+        let turned: Vec<u64> = populations.iter().rev().copied().collect();
+        let mut others = seats.clone();
+        reference::allot(method, house, &turned, &mut others).unwrap();
+        others.reverse();
+        seats != others
+    }
+
+    #[test]
+    fn the_short_lists_have_ties_at_houses_one_after_another() {
+        // Under Hill the states of 6 and of 1 want the 29th to the 31st seat by the same quotient,
+        // under Dean all states of the second list the 14th to the 18th.
+        let [first, second] = SHORT_LISTS;
+        for method in ONE_SEAT_MORE {
+            let list = if method == Method::Dean {
+                second
+            } else {
+                first
+            };
+            let tied: Vec<u64> = (8..=40).filter(|&h| has_ties(method, h, list)).collect();
+            let in_a_row = |pair: &[u64]| pair[0] + 1 == pair[1];
+            assert!(tied.windows(2).any(in_a_row), "{method:?} {tied:?}");
+        }
+        assert!((14..=17).all(|house| has_ties(Method::Dean, house, second)));
+        assert!((29..=30).all(|house| has_ties(Method::Hill, house, first)));
     }
 
     #[test]

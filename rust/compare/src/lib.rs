@@ -1,24 +1,37 @@
 //! The proved desk against the plain reference: seeded inputs are given to both through the C
-//! interface, and every number, list and lent buffer that comes back has to agree.
+//! interface, and every number, list and lent buffer that comes back has to agree. The seats are
+//! held to the laws of growth besides.
 
 mod case;
 mod check;
 mod damage;
 mod fixed;
+pub mod growth;
 mod placing;
+mod polls;
 mod problem;
 mod random;
 mod seeded;
 
 pub use case::Case;
-pub use check::{check, Counts};
+pub use check::{check, Counts, Outcomes};
 pub use fixed::fixed;
 pub use seeded::seeded;
+
+use reference::Method;
 
 /// The most states, as a number to count with.
 const MOST_STATES: u64 = reference::STATES_LIMIT as u64;
 /// The number of methods, which is the first number that stands for none.
-const METHODS: u64 = reference::Method::ALL.len() as u64;
+const METHODS: u64 = Method::ALL.len() as u64;
+/// The methods that meet the first claims by a quotient p / d(a).
+const DIVISOR_METHODS: [Method; 5] = [
+    Method::Adams,
+    Method::Dean,
+    Method::Hill,
+    Method::Webster,
+    Method::Jefferson,
+];
 
 /// The inputs of a run: the fixed ones first, then as many seeded ones as are asked for.
 pub struct Inputs {

@@ -1,6 +1,6 @@
 //! `compare --seed S --count N` gives N inputs to the proved desk and to the plain reference and
-//! ends with a line of counts; an input on which they differ is printed as a line that
-//! `compare --replay LINE` runs again.
+//! ends with a line of counts; an input on which they differ, or whose seats break a law of growth
+//! that their method keeps, is printed as a line that `compare --replay LINE` runs again.
 
 use compare::{check, Case, Counts, Inputs};
 use std::io::Read;
@@ -132,7 +132,8 @@ fn run(options: &Options) -> bool {
     differing.is_empty()
 }
 
-/// What was compared, in one line: inputs of each kind, calls, answers by refusal number.
+/// What was compared, in one line: inputs of each kind, calls, answers by refusal number, and what
+/// came of the laws of growth.
 fn closing_line(seed: u64, counts: &Counts, differing: usize) -> String {
     let kinds = Case::KINDS.iter().zip(counts.inputs);
     let kinds: Vec<String> = kinds
@@ -143,14 +144,22 @@ fn closing_line(seed: u64, counts: &Counts, differing: usize) -> String {
         .filter(|(_, &count)| count > 0)
         .map(|(number, count)| format!("{number}: {count}"))
         .collect();
+    let (more, polls) = (&counts.one_seat_more, &counts.two_polls);
+    let sum = |numbers: &[u64]| numbers.iter().sum::<u64>();
     format!(
         "seed {seed}: {} inputs ({}), {} calls, {} searched through, accepted {}, refused {}; \
-         {differing} differ",
-        counts.inputs.iter().sum::<u64>(),
+         one seat more held {} times and two polls {} times ({} with seats moved), \
+         broken {} and {} times under methods that are excepted; {differing} differ",
+        sum(&counts.inputs),
         kinds.join(", "),
         counts.calls,
         counts.searched,
         counts.refusals[0],
         refusals.join(", "),
+        sum(&more.held),
+        sum(&polls.held),
+        counts.moved,
+        sum(&more.broken),
+        sum(&polls.broken),
     )
 }

@@ -2,16 +2,8 @@
 //! equal quotients, equal remainders, whole shares, departures next to zero and the limits.
 
 use crate::random::Random;
-use crate::MOST_STATES;
+use crate::{DIVISOR_METHODS, MOST_STATES};
 use reference::{Method, HOUSE_LIMIT, SHOWN_SCALE, SUM_LIMIT};
-
-const DIVISOR_METHODS: [Method; 5] = [
-    Method::Adams,
-    Method::Dean,
-    Method::Hill,
-    Method::Webster,
-    Method::Jefferson,
-];
 
 /// A number of states: mostly few, at times many or the limit.
 pub fn states(random: &mut Random) -> u64 {
@@ -303,6 +295,20 @@ pub fn few_sizes(random: &mut Random) -> (Vec<u64>, u64) {
         _ => (sum * rounds + random.below(5)).saturating_sub(2),
     };
     (populations, house.clamp(1, HOUSE_LIMIT))
+}
+
+/// Some states that are equal or nearly so, and one as large as each of them or all together, or
+/// some times as large. Here the methods that are excepted from a law of growth break it more often
+/// than elsewhere.
+pub fn one_large(random: &mut Random) -> (Vec<u64>, u64) {
+    let others = random.from(2, 12);
+    let (least, most) = random.pick(&[(1, 4), (60, 63), (900, 930)]);
+    let mut populations: Vec<u64> = (0..others).map(|_| random.from(least, most)).collect();
+    let large = random.pick(&[1, others]) * random.from(least, 5 * most);
+    let at = random.below(others + 1) as usize;
+    populations.insert(at, large);
+    let n = others + 1;
+    (populations, random.from(n, 6 * n))
 }
 
 /// The lists of populations, the same in every run.

@@ -1,6 +1,8 @@
 //! Seeded inputs of every kind.
 
 use crate::damage::{self, Draft};
+use crate::growth::{ONE_SEAT_MORE, TWO_POLLS};
+use crate::polls::polls;
 use crate::problem::{self, HALVES};
 use crate::random::Random;
 use crate::{placing, Case, METHODS, MOST_STATES};
@@ -10,13 +12,15 @@ use reference::{Method, BYTES_LIMIT, HOUSE_LIMIT, SUM_LIMIT};
 pub fn seeded(seed: u64, number: u64) -> Case {
     let random = &mut Random::new(seed, number);
     match random.below(20) {
-        0..=7 => register(random),
-        8..=11 => allot(random),
-        12..=14 => walk(random),
-        15..=17 => Case::Step {
+        0..=5 => register(random),
+        6..=9 => allot(random),
+        10..=12 => walk(random),
+        13..=15 => Case::Step {
             placing: Box::new(placing::placing(random)),
         },
-        _ => departure(random),
+        16 | 17 => departure(random),
+        18 => one_seat_more(random),
+        _ => two_polls(random),
     }
 }
 
@@ -173,6 +177,73 @@ fn walk(random: &mut Random) -> Case {
     Case::Walk { house, populations }
 }
 
+/// A method and a problem to allot twice: mostly a method that keeps a law, mostly a sound problem,
+/// and often states that want a seat by the same quotient. At times the house is next to its limit,
+/// or it is the number of states or one less.
+fn method_and_problem(random: &mut Random, keep: &[Method]) -> (u64, Vec<u64>, u64) {
+    let method = random.pick(keep);
+    let (method, (populations, mut house)) = match random.below(32) {
+        0 => (random.pick(&Method::ALL), any_problem(random)),
+        1 | 2 => (Method::Leximin, problem::one_large(random)),
+        3 => (Method::Remainders, problem::problem(random)),
+        4 => (Method::Remainders, problem::equal_remainders(random)),
+        5 => (Method::Remainders, problem::one_large(random)),
+        6 => (Method::Quota, problem::few_sizes(random)),
+        7 | 8 => (Method::Quota, problem::one_large(random)),
+        9..=14 => {
+            let (method, populations, house) = problem::equal_quotients(random);
+            (method, (populations, house))
+        }
+        15..=17 => (method, problem::few_sizes(random)),
+        18 => (method, problem::equal_remainders(random)),
+        19 => (method, problem::house_after_house(random)),
+        20 | 21 => (method, problem::one_large(random)),
+        22..=25 => (method, any_problem(random)),
+        _ => (method, problem::problem(random)),
+    };
+    match random.below(60) {
+        0 => house = random.from(HOUSE_LIMIT - 2, HOUSE_LIMIT + 1),
+        1..=3 => house = (populations.len() as u64 + random.below(2)).saturating_sub(1),
+        _ => (),
+    }
+    let method = match random.below(40) {
+        0 => random.pick(&[METHODS, METHODS + 1, u64::MAX]),
+        _ => method as u64,
+    };
+    (method, populations, house)
+}
+
+/// A house and one seat more.
+fn one_seat_more(random: &mut Random) -> Case {
+    let (method, populations, house) = method_and_problem(random, &ONE_SEAT_MORE);
+    Case::Growth {
+        method,
+        house,
+        populations,
+    }
+}
+
+/// Two polls at one house; at times not of as many states.
+fn two_polls(random: &mut Random) -> Case {
+    let (method, populations, house) = method_and_problem(random, &TWO_POLLS);
+    let (before, mut after) = match reference::check_problem(&populations, house) {
+        Ok(()) => polls(random, &populations, house),
+        Err(_) => {
+            let counts = populations.iter().map(|_| random.from(1, 9)).collect();
+            (populations, counts)
+        }
+    };
+    if random.once_in(50) {
+        after.pop();
+    }
+    Case::Polls {
+        method,
+        house,
+        before,
+        after,
+    }
+}
+
 /// A departure: anything, sound, at a half, or at the edge of a mark.
 fn departure(random: &mut Random) -> Case {
     let (seats, house) = seats_of_house(random);
@@ -276,7 +347,7 @@ fn solved(random: &mut Random, seats: u64, house: u64, halves: u64) -> Option<(u
 }
 
 /// The greatest common divisor, by Euclid's rule.
-fn common_divisor(a: u64, b: u64) -> u64 {
+pub fn common_divisor(a: u64, b: u64) -> u64 {
     if b == 0 {
         a
     } else {

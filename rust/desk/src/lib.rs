@@ -132,7 +132,9 @@ pub fn name(bytes: &[u8], place: usize) -> Result<&[u8], Refusal> {
 }
 
 /// Fills the lent list with each state's seats and hands back leximin's steps, 0 under the other
-/// methods: refusals 10 to 15, which leave the list as it was.
+/// methods: refusals 10 to 15, which leave the list as it was. Where the same populations are
+/// accepted with a house and with one seat more, one state gains a seat and no other state
+/// changes, except under leximin and largest remainders, where a state may lose seats.
 pub fn allot(
     method: Method,
     house: u64,

@@ -1,6 +1,6 @@
 -- Laws of what Allot.antt defines, which proofs cite.
 -- Assumes nothing.
-use mathlib.Core.Path.{_≡_, sym, _∙_}
+use mathlib.Core.Path.{_≡_, sym, ap, _∙_}
 use mathlib.Core.Bool.{true, false}
 use mathlib.Core.List.{List}
 use Prim.Native.Nat.{ℕ}
@@ -11,11 +11,21 @@ use Rattle.apportionment.specs.Refusals.{accepted}
 use Rattle.apportionment.specs.Allotment.{allotRefusal, seatsOf, stepsOf, seatsAfter, stepsAfter}
 use Rattle.apportionment.specs.declared.Method.{Method}
 use Rattle.allot.specs.Allot.{allottedOf, AllotmentIs}
+use Rattle.allot.specs.declared.Allotted.{Allotted}
 
 -- The seats of the method, and its steps.
 pub record Filled (m : Method) (ps : List ℕ) (H : ℕ) (xs : List ℕ) (made : ℕ) : Type 0 where
   pub seats : xs ≡ seatsOf m ps H
   pub steps : made ≡ stepsOf m ps H
+
+-- The seats that an allotment left in the list, where it was not refused, are the method's, and none of its checks failed.
+pub seats-unless-refused : {m : Method} {H : ℕ} {ps before after : List ℕ} {r : Allotted} → AllotmentIs m H ps before after r
+    → r .refusal ≡ accepted → (allotRefusal m H ps (length before) ≡ accepted) × (after ≡ seatsOf m ps H)
+unfolding allottedOf seatsAfter
+seats-unless-refused {m} {H} {ps} {before} {after} {r} promise none =
+    let passed : allotRefusal m H ps (length before) ≡ accepted = sym (ap (λ (a : Allotted). a .refusal) (promise .outcome)) ∙ none in
+    let test : eqb (allotRefusal m H ps (length before)) accepted ≡ true = eq-eqb _ _ passed in
+    (passed, promise .seats ∙ rw test)
 
 -- A refusal: nothing is allotted and the list is as it was.
 pub refused-untouched : {m : Method} {H : ℕ} {ps before : List ℕ} {number : ℕ}

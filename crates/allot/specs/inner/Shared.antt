@@ -15,7 +15,8 @@ use Rattle.apportionment.specs.Quota.{quotaSeats}
 use Rattle.apportionment.specs.Allotment.{seatsOf}
 use Rattle.apportionment.specs.declared.DivisorMethod.{DivisorMethod}
 use Rattle.apportionment.specs.declared.Method.{Method}
-use Rattle.claims.specs.inner.DivisorRounding.{signposts-increase, weight-positive}
+use Rattle.apportionment.specs.inner.Signposts.{signposts-increase}
+use Rattle.claims.specs.inner.DivisorRounding.{weight-positive}
 use Rattle.claims.specs.inner.DivisorSeats.{claims-met-standing, claims-met-sum}
 use Rattle.apportionment.specs.inner.Problem.{Problem}
 use Rattle.claims.specs.inner.SizeClaims.{problem-positive}

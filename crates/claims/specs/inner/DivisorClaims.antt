@@ -1,21 +1,15 @@
 -- The divisor methods as orders of claims: claims go by d(a) / w for signposts d and weights w. And the seats as they are worked out: every
--- p H / P rounded by the signposts. DivisorOrder, DivisorRounding and DivisorSeats show what holds of them.
+-- p H / P rounded by the signposts. DivisorOrder, DivisorRounding, DivisorSeats and Growth show what holds of them.
 -- Assumes nothing.
-use mathlib.Core.Path.{_≡_}
-use mathlib.Core.Bool.{true, cond}
+use mathlib.Core.Bool.{cond}
 use mathlib.Core.List.{List, map}
-use Prim.Native.Nat.{ℕ, suc, _+_, _*_, _/_, _<_}
+use Prim.Native.Nat.{ℕ, _+_, _*_, _/_}
 use lib.ListN.{getD}
 use Rattle.apportionment.specs.Lists.{sum}
 use Rattle.apportionment.specs.Quantities.{Fraction, less}
 use Rattle.apportionment.specs.Divisor.{signpost, weightOf, claimOf}
 use Rattle.apportionment.specs.declared.DivisorMethod.{DivisorMethod}
 use Rattle.claims.specs.inner.Order.{ClaimTest}
-
--- Signposts d are increasing fractions.
-pub record Increasing (d : ℕ → Fraction) : Type 0 where
-  pub positive : (a : ℕ) → 0 < d a .under
-  pub increases : (a : ℕ) → less (d a) (d (suc a)) ≡ true
 
 -- The order of claims under signposts d for states of weights w.
 unfoldable pub divisorTest : (d : ℕ → Fraction) (w : ℕ → ℕ) → ClaimTest

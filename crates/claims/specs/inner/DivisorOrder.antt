@@ -10,10 +10,11 @@ use native.Mathlib.Omega.{arith}
 use lib.ListN.{length, getD}
 use Rattle.apportionment.specs.Quantities.{Fraction, less}
 use Rattle.apportionment.specs.Divisor.{claimOf}
+use Rattle.apportionment.specs.inner.Signposts.{Increasing}
 use Rattle.claims.specs.inner.Order.{ClaimOrder, Standing, comes}
 use Rattle.claims.specs.inner.Fractions.{less-true, less-of-products, less-asymmetric, less-transitive, less-of-not-of-less}
 use Rattle.claims.specs.inner.Fractions.{not-less-through}
-use Rattle.claims.specs.inner.DivisorClaims.{Increasing, divisorTest}
+use Rattle.claims.specs.inner.DivisorClaims.{divisorTest}
 
 -- The fraction t parts the claims c of a state at x seats: it is below none of the claims met, and below the next.
 pub record Parts (t : Fraction) (c : ℕ → Fraction) (x : ℕ) : Type 0 where

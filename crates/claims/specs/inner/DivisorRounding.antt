@@ -14,11 +14,12 @@ use Rattle.apportionment.specs.Lists.{sum}
 use Rattle.apportionment.specs.inner.Lists.{entry-at-most-sum, getD-map}
 use Rattle.apportionment.specs.Quantities.{Fraction, less}
 use Rattle.apportionment.specs.Divisor.{signpost, weightOf, claimOf}
+use Rattle.apportionment.specs.inner.Signposts.{signposts-increase}
 use Rattle.apportionment.specs.declared.DivisorMethod.{DivisorMethod}
 use Rattle.apportionment.specs.declared.DivisorMethod.the-variants.{Adams, Dean, Hill, Webster, Jefferson}
 use Rattle.claims.specs.inner.Order.{Standing}
 use Rattle.claims.specs.inner.Fractions.{less-of-products, not-less-of-products}
-use Rattle.claims.specs.inner.DivisorClaims.{Increasing, methodTest, averageClaim, rounded, roundedSeats}
+use Rattle.claims.specs.inner.DivisorClaims.{methodTest, averageClaim, rounded, roundedSeats}
 use Rattle.claims.specs.inner.DivisorOrder.{Parts, threshold-standing}
 
 -- ---- what the methods' signposts have in common
@@ -27,8 +28,6 @@ use Rattle.claims.specs.inner.DivisorOrder.{Parts, threshold-standing}
 pub record Rounding (W : ℕ → ℕ) (d : ℕ → Fraction) : Type 0 where
   pub times : (x y : ℕ) → W (x * y) ≡ W x * W y
   pub grows : (x y : ℕ) → x < y → W x < W y
-  pub positive : (a : ℕ) → 0 < d a .under
-  pub increases : (a : ℕ) → d a .over * d (suc a) .under < d (suc a) .over * d a .under
   pub low : (a : ℕ) → W a * d a .under ≤ d a .over
   pub high : (a : ℕ) → d a .over ≤ W (suc a) * d a .under
 
@@ -44,20 +43,11 @@ method-rounding Hill =
     record {
       times = omega arith;
       grows = square-grows;
-      positive = omega arith;
-      increases = omega arith;
       low = omega arith;
       high = omega arith;
     }
 method-rounding Webster = omega arith
 method-rounding Jefferson = omega arith
-
-pub signposts-increase : (m : DivisorMethod) → Increasing (signpost m)
-signposts-increase m =
-    record {
-      positive = method-rounding m .positive;
-      increases = λ a. less-of-products (signpost m a) (signpost m (suc a)) (method-rounding m .increases a);
-    }
 
 pub weight-positive : (m : DivisorMethod) (p : ℕ) → 0 < p → 0 < weightOf m p
 weight-positive m p h = omega (arith, method-rounding m .grows 0 p h)
@@ -75,7 +65,7 @@ module _ (m : DivisorMethod) where
       ⊎-elim (λ (e : x ≡ y). le-of-eq (ap (weightOf m) e)) (λ (l : x < y). le-of-lt (method-rounding m .grows x y l))
       (eq-or-lt-of-le h)
 
-  scaled-at-most : (x y p q : ℕ) → x * y ≤ p * q → weightOf m x * weightOf m y ≤ weightOf m p * weightOf m q
+  pub scaled-at-most : (x y p q : ℕ) → x * y ≤ p * q → weightOf m x * weightOf m y ≤ weightOf m p * weightOf m q
   scaled-at-most x y p q h =
       rw (← (method-rounding m .times x y), ← (method-rounding m .times p q)) (weight-at-most (x * y) (p * q) h)
 
@@ -103,7 +93,7 @@ module _ (m : DivisorMethod) where
         (omega (
           arith,
           mul-le-mul-right (weightOf m P) (method-rounding m .low a),
-          mul-lt-mul-of-pos-right (scaled-below p H a P h) (method-rounding m .positive a),
+          mul-lt-mul-of-pos-right (scaled-below p H a P h) (signposts-increase m .positive a),
         ))
 
     module _ (h : 0 < P) where

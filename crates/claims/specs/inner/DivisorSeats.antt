@@ -1,7 +1,7 @@
 -- The claims met in order are the seats that stand, so seats that stand and sum to the house are the method's allotment; and rounding for
 -- a house gives no state more than one seat above it, which withdrawing never adds to.
 -- Assumes nothing.
-use mathlib.Core.Path.{_≡_, refl, sym, ap, _∙_}
+use mathlib.Core.Path.{_≡_, sym, ap, _∙_}
 use mathlib.Core.Bool.{Bool, true, false, cond}
 use mathlib.Core.List.{List, [], _∷_}
 use Prim.Native.Nat.{ℕ, zero, suc, _+_, _*_, _/_, _<_, _≤_, zero-le}
@@ -12,13 +12,14 @@ use Rattle.apportionment.specs.Lists.{sum}
 use Rattle.apportionment.specs.inner.Lists.{entry-at-most-sum, map-bounded, sum-zeros}
 use Rattle.apportionment.specs.Quantities.{Fraction, less}
 use Rattle.apportionment.specs.Divisor.{weightOf, claimBefore, firstClaim, claimsMet, divisorSeats}
+use Rattle.apportionment.specs.inner.Signposts.{Increasing, signposts-increase}
 use Rattle.apportionment.specs.declared.DivisorMethod.{DivisorMethod}
 use Rattle.claims.specs.inner.Order.{ClaimTest, ClaimOrder, Standing}
 use Rattle.claims.specs.inner.Order.{wantsBefore, firstUnmet, placed, lastMet, oneLess, withdrawn, withdrawnTimes}
 use Rattle.claims.specs.inner.Standing.{standing-unique, placed-standing, sum-placed}
-use Rattle.claims.specs.inner.DivisorClaims.{Increasing, divisorTest, methodTest, averageClaim, rounded, roundedSeats}
+use Rattle.claims.specs.inner.DivisorClaims.{divisorTest, methodTest, averageClaim, rounded, roundedSeats}
 use Rattle.claims.specs.inner.DivisorOrder.{divisor-order}
-use Rattle.claims.specs.inner.DivisorRounding.{signposts-increase, weight-positive, methodClaim}
+use Rattle.claims.specs.inner.DivisorRounding.{weight-positive, methodClaim}
 
 -- ---- the claims met in order
 
@@ -56,7 +57,7 @@ module _ {d : ℕ → Fraction} {n : ℕ} {w : ℕ → ℕ} (inc : Increasing d)
 -- ---- a method's seats
 
 module _ (ps : List ℕ) (some : 0 < length ps) (peopled : (i : ℕ) → i < length ps → 0 < getD ps i 0) (m : DivisorMethod) where
-  method-weighs : (i : ℕ) → i < length ps → 0 < weightOf m (getD ps i 0)
+  pub method-weighs : (i : ℕ) → i < length ps → 0 < weightOf m (getD ps i 0)
   method-weighs i h = weight-positive m (getD ps i 0) (peopled i h)
 
   pub method-order : ClaimOrder (length ps) (λ _. 0) (methodTest m ps)

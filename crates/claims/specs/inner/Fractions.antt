@@ -6,8 +6,8 @@ use mathlib.Core.Bool.{true, false}
 use Prim.Native.Nat.{_*_, _<_, _≤_}
 use native.Mathlib.Nat.{le-of-lt, le-refl, mul-le-mul-right, mul-lt-mul-of-pos-right, le-of-mul-le-mul-right, lt-of-mul-lt-mul-right}
 use native.Mathlib.Omega.{arith}
-use borrow.Author.Tests.{ltb-true, ltb-false, lt-ltb, le-ltb}
-use Rattle.apportionment.specs.Quantities.{Fraction, less}
+use borrow.Author.Tests.{ltb-true, ltb-false, lt-ltb, le-ltb, leb-true}
+use Rattle.apportionment.specs.Quantities.{Fraction, less, atMost}
 
 -- ---- a test and the products
 
@@ -26,6 +26,10 @@ less-of-products s t h = lt-ltb _ _ h
 pub not-less-of-products : (s t : Fraction) → t .over * s .under ≤ s .over * t .under → less s t ≡ false
 unfolding less
 not-less-of-products s t h = le-ltb _ _ h
+
+pub at-most-true : (s t : Fraction) → atMost s t ≡ true → s .over * t .under ≤ t .over * s .under
+unfolding atMost
+at-most-true s t e = leb-true _ _ e
 
 -- ---- the laws of the order
 

@@ -108,7 +108,7 @@ firstPlace-first before k asym through = firstPlace-holds before First k same ke
 -- ---- `comes`, read by its cases
 
 -- (i, a) comes before (j, b): by value, or at no later value because its state is earlier.
-comes-cases : (lt : ClaimTest) (i a j b : ℕ) → comes lt i a j b ≡ true → (lt i a j b ≡ true) ⊎ ((lt j b i a ≡ false) × (i < j))
+pub comes-cases : (lt : ClaimTest) (i a j b : ℕ) → comes lt i a j b ≡ true → (lt i a j b ≡ true) ⊎ ((lt j b i a ≡ false) × (i < j))
 unfolding comes
 comes-cases lt i a j b e = by-test (lt i a j b) (lt j b i a) refl refl e
   where

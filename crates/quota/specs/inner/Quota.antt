@@ -17,6 +17,8 @@ use Rattle.apportionment.specs.Quota.{able, quotient, seatGoesTo, quotaSeats, W
 use Rattle.apportionment.specs.inner.Tests.{either-way}
 use Rattle.apportionment.specs.inner.Lists.{entry-at-most-sum, sum-zeros, zeros-at}
 use Rattle.apportionment.specs.inner.Lists.{sum-listOf-at-most, sum-listOf-less}
+use Rattle.claims.specs.Growth.{OneGains}
+use Rattle.claims.specs.inner.Growth.{one-more-gains}
 use Rattle.claims.specs.inner.Fractions.{less-of-products}
 use Rattle.claims.specs.inner.StandingOrder.{comes-by-value}
 use Rattle.claims.specs.inner.StandingMoves.{length-oneMore, sum-oneMore}
@@ -42,6 +44,11 @@ module _ {ps : List ℕ} (ok : Peopled ps) where
   quota-sum zero = sum-zeros (length ps)
   quota-sum (suc h) =
       sum-oneMore (quotaSeats ps h) _ (rw (quota-long h) (seat-lt ok (suc h) (quotaSeats ps h))) ∙ ap suc (quota-sum h)
+
+  -- One seat more: the state that has it gains, and no other changes.
+  pub quota-one-more : (h : ℕ) → OneGains (quotaSeats ps h) (quotaSeats ps (suc h))
+  unfolding quotaSeats
+  quota-one-more h = one-more-gains (quotaSeats ps h) _ (rw (quota-long h) (seat-lt ok (suc h) (quotaSeats ps h)))
 
   -- ---- some state is able
 
