@@ -20,6 +20,7 @@ static uint64_t equal[DESK_STATES_LIMIT], giant[DESK_STATES_LIMIT], too_many[DES
 static uint64_t seats[DESK_STATES_LIMIT];
 static char registers[METHODS][DESK_REGISTER_LIMIT + 1];
 static size_t lengths[METHODS];
+/* Room for a listing, and so for a clean copy, which is shorter. */
 static uint8_t out[DESK_LISTING_ROOM];
 
 /* Results, kept there too, and what was answered, added up: an operation that was not run shows. */
@@ -110,6 +111,14 @@ static void call_listing(void) {
     }
 }
 
+static void call_clean(void) {
+    for (int m = 0; m < METHODS; m++) {
+        count(desk_clean(bytes(m), lengths[m], out, sizeof out).refusal);
+        desk_clean(bytes(m), lengths[m], out, 1);
+        desk_clean(bytes(m), lengths[m] - 1, out, sizeof out);
+    }
+}
+
 static void call_name(void) {
     count(desk_name(bytes(0), lengths[0], DESK_STATES_LIMIT - 1).refusal);
     desk_name(bytes(0), lengths[0], DESK_STATES_LIMIT);
@@ -158,6 +167,7 @@ int main(void) {
     right &= hold("desk_step", call_step, DESK_STEP_STACK, nothing);
     right &= hold("desk_departure", call_departure, DESK_DEPARTURE_STACK, nothing);
     right &= hold("desk_listing", call_listing, DESK_LISTING_STACK, nothing);
+    right &= hold("desk_clean", call_clean, DESK_CLEAN_STACK, nothing);
     right &= hold("desk_name", call_name, DESK_NAME_STACK, nothing);
     return right ? 0 : 1;
 }

@@ -26,6 +26,11 @@ extern "C" {
    number (crates/listing/specs/inner/Room.antt, listingRoom). */
 #define DESK_LISTING_ROOM (31 + DESK_STATES_LIMIT * 67 + 23)
 
+/* Room for any clean copy of a register, likewise: the longest head, a line for each state at its
+   longest, and the longest closing line. A buffer of so many bytes is never refused 31; the library is
+   proved to that number (crates/cleaning/specs/inner/Room.antt, cleanRoom). */
+#define DESK_CLEAN_ROOM (30 + DESK_STATES_LIMIT * 44 + 17)
+
 /* The stack that each operation takes at most, in bytes, what is handed over by value included: a
    thread with 256 KiB is safe for any of them. Measured on x86-64 Linux by painting the stack, at the
    limits and on refusals; the gate measures it again (.ci/stack.c). Nothing else is allocated. */
@@ -35,6 +40,7 @@ extern "C" {
 #define DESK_STEP_STACK (64 * 1024)
 #define DESK_DEPARTURE_STACK 128
 #define DESK_LISTING_STACK (200 * 1024)
+#define DESK_CLEAN_STACK (64 * 1024)
 #define DESK_NAME_STACK (30 * 1024)
 
 /* The methods. Under largest remainders, of equal remainders the larger population has the seat, and
@@ -118,7 +124,7 @@ typedef struct {
    30 outside the limits. Refused or without seats, `shown` is 0 and the mark is none. */
 desk_shown desk_departure(uint64_t population, uint64_t seats, uint64_t total, uint64_t house);
 
-/* A listing written, and its length, 0 on a refusal. */
+/* A text written, a listing or a clean copy, and its length, 0 on a refusal. */
 typedef struct {
     uint64_t refusal, line, length;
 } desk_written;
@@ -126,6 +132,13 @@ typedef struct {
 /* Writes the listing of a register at the front of the lent buffer: the refusals of reading and
    of allotting, then 31 if the listing is longer than the room. Bytes after it are kept. */
 desk_written desk_listing(const uint8_t *bytes, size_t length, uint8_t *out, size_t room);
+
+/* Writes the clean copy of a register at the front of the lent buffer, which cannot be the register
+   itself: the same lines, each ended by LF alone and its numbers without leading zeros. The refusals
+   of reading, then 31 if the copy is longer than the room. Bytes after it are kept. Reading the copy
+   gives what reading the register gives, names included; the copy of a copy is the same bytes; and two
+   registers have equal copies exactly where method, house, names and populations agree in order. */
+desk_written desk_clean(const uint8_t *bytes, size_t length, uint8_t *out, size_t room);
 
 /* A part of the register: where it starts and how long it is, 0 and 0 on a refusal. */
 typedef struct {

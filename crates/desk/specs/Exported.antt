@@ -7,7 +7,7 @@ use Rattle.apportionment.specs.Methods.{methodNumber}
 use Rattle.apportionment.specs.declared.Mark.{Mark}
 use Rattle.apportionment.specs.declared.Mark.the-variants.{None}
 use Rattle.departure.specs.Answer.{departureRefusal, departureShown, departureMark}
-use Rattle.listing.specs.declared.Listed.{Listed}
+use Rattle.text.specs.declared.handover.Written.{Written}
 use Rattle.placing.specs.declared.Placing.{Placing}
 use Rattle.placing.specs.declared.Placed.{Placed}
 use Rattle.register.specs.declared.Reading.{Reading}
@@ -65,5 +65,5 @@ unfoldable pub exportedDeparture : (p a P H : ℕ) → DeskShown
 exportedDeparture p a P H =
     exportedShown (departureRefusal p a P H) (departureShown p a P H) (departureMark p a P H)
 
-abbrev pub exportedListed : Listed → DeskWritten
-exportedListed l = record { refusal = l .refusal; line = l .line; length = l .size }
+abbrev pub exportedWritten : Written → DeskWritten
+exportedWritten w = record { refusal = w .refusal; line = w .line; length = w .size }

@@ -5,9 +5,9 @@ use apportionment::Mark;
 use apportionment::STATE_LIMIT;
 use apportionment::methods;
 use apportionment::refusals;
+use cleaning::write_clean;
 use departure::Answer;
 use departure::departure_of;
-use listing::Listed;
 use listing::write_listing;
 use placing::Placed;
 use placing::Placing;
@@ -15,15 +15,18 @@ use register::Reading;
 use register::name_refusal;
 use register::read;
 use register::rows;
+use text::handover::Written;
 ghost use mathlib.Core.Path.{_≡_};
 ghost use mathlib.Core.Option.{some};
 ghost use lib.ListN.{length};
 ghost use Rattle.apportionment.specs.Refusals.{accepted};
-ghost use Rattle.listing.specs.Listing.{listedOf, bufferAfter};
+ghost use Rattle.cleaning.specs.Clean.{cleanOf, cleanedOf};
+ghost use Rattle.listing.specs.Listing.{listingOf, listedOf};
 ghost use Rattle.placing.specs.Placing.{openedOf, steppedOf};
 ghost use Rattle.register.specs.Register.{readingOf};
+ghost use Rattle.text.specs.Handover.{bufferAfter};
 ghost use Rattle.desk.specs.Numbers.{markNumber};
-ghost use Rattle.desk.specs.Exported.{exportedReading, exportedPlacing, innerPlacing, exportedPlaced, exportedListed};
+ghost use Rattle.desk.specs.Exported.{exportedReading, exportedPlacing, innerPlacing, exportedPlaced, exportedWritten};
 ghost use Rattle.desk.specs.Exported.{exportedShown, exportedDeparture};
 ghost use Rattle.desk.specs.inner.Exported.{exportedAnswer};
 ghost use Rattle.desk.specs.Allotting.{allottedBy, seatsBy};
@@ -186,13 +189,13 @@ fn exported_answer(answer: Answer) -> DeskShown
     }
 }
 
-fn exported_listed(listed: Listed) -> DeskWritten
-    ensures { λ r. ⌜ r ≡ exportedListed listed ⌝ }
+fn exported_written(written: Written) -> DeskWritten
+    ensures { λ r. ⌜ r ≡ exportedWritten written ⌝ }
 {
     DeskWritten {
-        refusal: listed.refusal,
-        line: listed.line,
-        length: listed.size as u64,
+        refusal: written.refusal,
+        line: written.line,
+        length: written.size as u64,
     }
 }
 
@@ -258,11 +261,22 @@ pub extern "C" fn desk_departure(population: u64, seats: u64, total: u64, house:
 // the buffer, which a refusal leaves as it was.
 #[no_mangle]
 pub extern "C" fn desk_listing(bytes: &[u8], out: &mut [u8]) -> DeskWritten
-    ensures { λ r. ⌜ r ≡ exportedListed (listedOf (now (bytes .entry)) (length (now (out .entry)))) ⌝ }
-    ensures { λ _. ⌜ now (out .exit) ≡ bufferAfter (now (bytes .entry)) (now (out .entry)) ⌝ }
+    ensures { λ r. ⌜ r ≡ exportedWritten (listedOf (now (bytes .entry)) (length (now (out .entry)))) ⌝ }
+    ensures { λ r. ⌜ now (out .exit) ≡ bufferAfter (r .refusal) (listingOf (now (bytes .entry))) (now (out .entry)) ⌝ }
 {
     let listed = write_listing(bytes, out);
-    exported_listed(listed)
+    exported_written(listed)
+}
+
+// Writes the clean form of a register at the front of the lent buffer: reading's refusals, then 31 if it is longer than the buffer, which a
+// refusal leaves as it was.
+#[no_mangle]
+pub extern "C" fn desk_clean(bytes: &[u8], out: &mut [u8]) -> DeskWritten
+    ensures { λ r. ⌜ r ≡ exportedWritten (cleanedOf (now (bytes .entry)) (length (now (out .entry)))) ⌝ }
+    ensures { λ r. ⌜ now (out .exit) ≡ bufferAfter (r .refusal) (cleanOf (now (bytes .entry))) (now (out .entry)) ⌝ }
+{
+    let cleaned = write_clean(bytes, out);
+    exported_written(cleaned)
 }
 
 // Where the name of the state with a place, counted from 0, starts in the register, and its length: reading's refusals, then 40 for a place

@@ -1,30 +1,24 @@
 -- Document 01, "The listing in full" and "Operations": the listing of a register, its refusals, and what a lent buffer holds afterwards.
 -- A line is laid out in the order in which it is written, and the lines in register order.
 -- Assumes nothing.
-use mathlib.Core.Path.{_≡_}
 use mathlib.Core.Bool.{cond}
 use mathlib.Core.List.{List, [], _++_}
 use Prim.Native.Nat.{ℕ, zero, suc}
-use lib.Dec.{leb, eqb}
-use lib.ListN.{length, getD, take, drop}
-use Rattle.apportionment.specs.Refusals.{accepted, bufferTooShort}
+use lib.Dec.{eqb}
+use lib.ListN.{getD}
+use Rattle.apportionment.specs.Refusals.{accepted}
 use Rattle.apportionment.specs.Lists.{sum}
 use Rattle.apportionment.specs.Text.{bytesOf}
 use Rattle.apportionment.specs.Quantities.{departureText, markFor, markText}
 use Rattle.apportionment.specs.Allotment.{allotRefusal, seatsOf}
-use Rattle.apportionment.specs.declared.Method.{Method}
-use Rattle.apportionment.specs.Methods.{methodText}
-use Rattle.text.specs.Shared.{numbersText, totalLine, refusalLine}
-use Rattle.register.specs.Register.{readingOf}
+use Rattle.text.specs.Shared.{numbersText, headLine, totalLine}
+use Rattle.text.specs.Handover.{writtenOf, WritingIs, printedOf}
+use Rattle.text.specs.declared.handover.Written.{Written}
+use Rattle.register.specs.Register.{readingOf, populationsIn}
 use Rattle.register.specs.Names.{nameOf}
 use Rattle.register.specs.declared.Reading.{Reading}
-use Rattle.listing.specs.declared.Listed.{Listed}
 
 -- ---- lines
-
--- Line 1: the word, method, house, states.
-unfoldable pub headLine : Method → (H n : ℕ) → List ℕ
-headLine m H n = bytesOf "allotment," ++ methodText m ++ numbersText H n ++ bytesOf "\n"
 
 -- A state's line: name, population, seats, shown departure, mark.
 unfoldable pub stateLine : (name : List ℕ) (p a P H : ℕ) → List ℕ
@@ -39,10 +33,6 @@ stateLines name ps seats P H (suc k) =
 
 -- ---- the listing
 
--- The populations that were read, without the 0s past them.
-abbrev pub populationsIn : Reading → List ℕ
-populationsIn r = take (r .states) (r .populations)
-
 -- The seats of what was read.
 unfoldable pub seatsIn : Reading → List ℕ
 seatsIn r = seatsOf (r .method) (populationsIn r) (r .house)
@@ -50,7 +40,7 @@ seatsIn r = seatsOf (r .method) (populationsIn r) (r .house)
 -- The listing of what was read, with the states' names and seats.
 unfoldable pub listingIn : Reading → (name : ℕ → List ℕ) (seats : List ℕ) → List ℕ
 listingIn r name seats =
-    headLine (r .method) (r .house) (r .states)
+    headLine (bytesOf "allotment") (r .method) (r .house) (r .states)
     ++ stateLines name (populationsIn r) seats (r .total) (r .house) (r .states)
     ++ totalLine (r .total) (sum seats)
 
@@ -60,46 +50,25 @@ listingOf register = listingIn (readingOf register) (nameOf register) (seatsIn (
 
 -- ---- refusals, and the lent buffer
 
-unfoldable pub refused : (refusal line : ℕ) → Listed
-refused refusal line = record { refusal = refusal; line = line; size = 0 }
-
 -- Allotting's refusal of what was read. The seats go into a list of the desk's own, which has a place for each state.
 unfoldable pub allotRefusalIn : Reading → ℕ
 allotRefusalIn r = allotRefusal (r .method) (r .house) (populationsIn r) (r .states)
 
--- 31 exactly if the listing is longer than the buffer; or the listing's length.
-unfoldable pub fittedOf : (listing : List ℕ) (room : ℕ) → Listed
-fittedOf listing room =
-    cond (leb (length listing) room)
-    (record { refusal = accepted; line = 0; size = length listing })
-    (refused bufferTooShort 0)
+-- Reading's refusals, then allotting's. The line is reading's, which is 0 where allotting refuses.
+unfoldable pub listRefusalIn : Reading → ℕ
+listRefusalIn r = cond (eqb (r .refusal) accepted) (allotRefusalIn r) (r .refusal)
 
--- Reading's refusals with their line, then allotting's, then 31.
-unfoldable pub listedIn : Reading → (listing : List ℕ) (room : ℕ) → Listed
-listedIn r listing room =
-    cond (eqb (r .refusal) accepted)
-    (cond (eqb (allotRefusalIn r) accepted) (fittedOf listing room) (refused (allotRefusalIn r) 0))
-    (refused (r .refusal) (r .line))
-
-unfoldable pub listedOf : (register : List ℕ) (room : ℕ) → Listed
-listedOf register room = listedIn (readingOf register) (listingOf register) room
-
--- The lent buffer afterwards: the listing and then the bytes that were there; refused, every byte as it was.
-unfoldable pub bufferAfter : (register buffer : List ℕ) → List ℕ
-bufferAfter register buffer =
-    let listing = listingOf register in
-    cond (eqb (listedOf register (length buffer) .refusal) accepted) (listing ++ drop (length listing) buffer) buffer
+-- What writing a listing hands back: these refusals, then 31 exactly if the listing is longer than the buffer; or the listing's length.
+unfoldable pub listedOf : (register : List ℕ) (room : ℕ) → Written
+listedOf register room =
+    let r = readingOf register in
+    writtenOf (listRefusalIn r) (r .line) (listingOf register) room
 
 -- The promise of writing a listing: what is handed back, and the lent buffer afterwards.
-pub record ListingIs (register before : List ℕ) (r : Listed) (after : List ℕ) : Type 0 where
-  pub answer : r ≡ listedOf register (length before)
-  pub buffer : after ≡ bufferAfter register before
+abbrev pub ListingIs : (register before : List ℕ) → Written → (after : List ℕ) → Type 0
+ListingIs register before r after =
+    WritingIs (listRefusalIn (readingOf register)) (readingOf register .line) (listingOf register) before r after
 
--- ---- what the allotment program prints
-
--- The listing, or on a refusal its number and line alone; the program has room for every listing.
-unfoldable pub printedOf : (register : List ℕ) → List ℕ
-printedOf register =
-    let listing = listingOf register in
-    let listed = listedOf register (length listing) in
-    cond (eqb (listed .refusal) accepted) listing (refusalLine (listed .refusal) (listed .line))
+-- What the allotment program prints: the listing, or on a refusal its number and line alone.
+abbrev pub listingPrinted : (register : List ℕ) → List ℕ
+listingPrinted register = printedOf (listRefusalIn (readingOf register)) (readingOf register .line) (listingOf register)

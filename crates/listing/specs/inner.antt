@@ -2,5 +2,4 @@
 pub mod Rows
 pub mod Room
 pub mod Listed
-pub mod Printed
 pub mod Example

@@ -4,15 +4,19 @@ mod rows;
 use apportionment::STATE_LIMIT;
 use apportionment::refusals;
 use register::Reading;
+use text::handover;
+use text::handover::Written;
 ghost use mathlib.Core.Path.{_≡_};
 ghost use Prim.Native.Nat.{_≤_};
 ghost use lib.ListN.{length};
 ghost use Rattle.register.specs.Names.{rowsOf, nameInRow};
 ghost use Rattle.register.specs.inner.Rows.{Placed};
+ghost use Rattle.register.specs.inner.Sound.{GoodReading};
+ghost use Rattle.apportionment.specs.Refusals.{accepted};
 ghost use Rattle.text.specs.Writing.{Wrote};
-ghost use Rattle.listing.specs.Listing.{listingIn, refused, ListingIs, printedOf};
+ghost use Rattle.text.specs.Handover.{WritingIs};
+ghost use Rattle.listing.specs.Listing.{listingIn, ListingIs, listingPrinted};
 ghost use Rattle.listing.specs.inner.Room.{AllListable};
-ghost use Rattle.listing.specs.inner.Listed.{GoodReading, HandedOver};
 
 // The room of the longest head, line of a state and line of totals; specs/inner/Room.antt says what each is made of.
 const HEAD_ROOM: usize = 31;
@@ -24,23 +28,6 @@ const TOTAL_ROOM: usize = 23;
 // Room for every listing there is, as specs/inner/Room.antt shows; a listing is written there first, so that a buffer that is too short
 // stays as it is.
 pub const LISTING_ROOM: usize = HEAD_ROOM + STATE_LIMIT * LINE_ROOM + TOTAL_ROOM;
-
-// What writing a listing answers: a refusal's number and line, or 0, 0 and the listing's length.
-pub struct Listed {
-    pub refusal: u64,
-    pub line: u64,
-    pub size: usize,
-}
-
-fn refused(refusal: u64, line: u64) -> Listed
-    ensures { λ r. ⌜ r ≡ refused refusal line ⌝ }
-{
-    Listed {
-        refusal,
-        line,
-        size: 0,
-    }
-}
 
 // The whole listing of what was read. The states' names stand in the rows of the register, from their starts to their ends.
 fn put_listing(
@@ -59,7 +46,7 @@ fn put_listing(
     let n = reading.states;
     let method = reading.method;
     let populations = reading.populations;
-    let head = rows::put_head(out, 0, method, reading.house, n as u64);
+    let head = text::put_head(out, 0, b"allotment", method, reading.house, n as u64);
     let states = rows::put_states(
         out,
         head,
@@ -74,30 +61,23 @@ fn put_listing(
     text::put_total(out, states, reading.total, problem::total_of(seats))
 }
 
-// Hands the listing of what was read over to the buffer, if it fits.
-fn hand_over(
+// Writes the listing of what was read on a page and hands it over to the buffer, if it fits.
+fn list_seats(
     reading: Reading,
     rows: &[u8],
     starts: &[u32],
     ends: &[u32],
     seats: &[u64],
     out: &mut [u8],
-) -> Listed
+) -> Written
     requires listable { ⌜ AllListable reading (nameInRow (now rows)) (now seats) ⌝ }
     requires placed { ⌜ Placed (reading .states) (now rows) (now starts) (now ends) ⌝ }
-    ensures { λ r. ⌜ HandedOver (listingIn reading (nameInRow (now (rows .entry))) (now (seats .entry)))
+    ensures { λ r. ⌜ WritingIs accepted 0 (listingIn reading (nameInRow (now (rows .entry))) (now (seats .entry)))
         (now (out .entry)) r (now (out .exit)) ⌝ }
 {
     let mut page = [0u8; LISTING_ROOM];
     let size = put_listing(&mut page[..], reading, rows, starts, ends, seats);
-    if text::copy_out(&page[..size], out) {
-        return Listed {
-            refusal: refusals::ACCEPTED,
-            line: 0,
-            size,
-        };
-    }
-    refused(refusals::BUFFER_TOO_SHORT, 0)
+    handover::hand_over(&page[..size], out)
 }
 
 // Allots what was read and lists it. The seats go into a lent list, which has a place for each state.
@@ -108,7 +88,7 @@ fn list_states(
     ends: &[u32],
     seats: &mut [u64],
     out: &mut [u8],
-) -> Listed
+) -> Written
     requires read { ⌜ GoodReading (now register) reading × (length (now seats) ≡ reading .states) ⌝ }
     requires placed { ⌜ Placed (reading .states) (rowsOf (now register)) (now starts) (now ends) ⌝ }
     ensures { λ r. ⌜ ListingIs (now (register .entry)) (now (out .entry)) r (now (out .exit)) ⌝ }
@@ -118,22 +98,22 @@ fn list_states(
     let populations = reading.populations;
     let allotted = allot::allot(method, reading.house, &populations[..n], seats);
     if allotted.refusal != refusals::ACCEPTED {
-        return refused(allotted.refusal, 0);
+        return handover::refused(allotted.refusal, 0);
     }
     let rows = register::rows::of(register);
-    hand_over(reading, rows, starts, ends, &seats[..], out)
+    list_seats(reading, rows, starts, ends, &seats[..], out)
 }
 
 // Writes the listing of a register into the buffer: reading's refusals, allotting's, then 31 exactly if the listing is longer than the
 // buffer. Refused, the buffer keeps every byte; otherwise it keeps those after the listing.
-pub fn write_listing(register: &[u8], out: &mut [u8]) -> Listed
+pub fn write_listing(register: &[u8], out: &mut [u8]) -> Written
     ensures { λ r. ⌜ ListingIs (now (register .entry)) (now (out .entry)) r (now (out .exit)) ⌝ }
 {
     let mut starts = [0u32; STATE_LIMIT];
     let mut ends = [0u32; STATE_LIMIT];
     let reading = register::read_places(register, &mut starts[..], &mut ends[..]);
     if reading.refusal != refusals::ACCEPTED {
-        return refused(reading.refusal, reading.line);
+        return handover::refused(reading.refusal, reading.line);
     }
     let n = reading.states;
     let mut seats = [0u64; STATE_LIMIT];
@@ -149,8 +129,8 @@ pub fn write_listing(register: &[u8], out: &mut [u8]) -> Listed
 
 // What the allotment program prints: the listing, or a refusal's one line. The page has room for either, and keeps its bytes after it.
 pub fn print(register: &[u8], page: &mut [u8; LISTING_ROOM]) -> usize
-    ensures wrote { λ r. ⌜ Wrote (now (page .entry)) 0 (printedOf (now (register .entry))) (now (page .exit)) r ⌝ }
-    ensures fits { λ _. ⌜ length (printedOf (now (register .entry))) ≤ length (now (page .entry)) ⌝ }
+    ensures wrote { λ r. ⌜ Wrote (now (page .entry)) 0 (listingPrinted (now (register .entry))) (now (page .exit)) r ⌝ }
+    ensures fits { λ _. ⌜ length (listingPrinted (now (register .entry))) ≤ length (now (page .entry)) ⌝ }
 {
     let listed = write_listing(register, &mut page[..]);
     if listed.refusal == refusals::ACCEPTED {

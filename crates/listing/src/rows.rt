@@ -1,5 +1,4 @@
 // The lines of a listing, each written from a place on; see crate `text` for what that place is.
-use apportionment::Method;
 use departure::departure_of;
 use register::rows::name_placed;
 use text::answers;
@@ -10,17 +9,7 @@ ghost use Rattle.departure.specs.inner.Answer.{AllInLimits, InLimits};
 ghost use Rattle.register.specs.Names.{nameInRow};
 ghost use Rattle.register.specs.inner.Rows.{Placed};
 ghost use Rattle.text.specs.Writing.{Wrote};
-ghost use Rattle.listing.specs.Listing.{headLine, stateLine, stateLines};
-
-// Line 1.
-pub fn put_head(out: &mut [u8], at: usize, method: Method, house: u64, states: u64) -> usize
-    ensures { λ r. ⌜ Wrote (now (out .entry)) at (headLine method house states) (now (out .exit)) r ⌝ }
-{
-    let word = text::put_bytes(out, at, b"allotment,");
-    let named = text::put_method(out, word, method);
-    let numbers = text::put_numbers(out, named, house, states);
-    text::put_byte(out, numbers, b'\n')
-}
+ghost use Rattle.listing.specs.Listing.{stateLine, stateLines};
 
 // A state's line.
 fn put_state(

@@ -5,7 +5,7 @@ use mathlib.Core.Bool.{cond}
 use mathlib.Core.List.{List}
 use Prim.Native.Nat.{ℕ, zero, suc, _+_}
 use lib.Dec.{ltb, eqb}
-use lib.ListN.{length, set, replicate}
+use lib.ListN.{length, take, set, replicate}
 use Rattle.apportionment.specs.Limits.{stateLimit, registerLimit}
 use Rattle.apportionment.specs.Refusals.{accepted, registerTooLong, lineIllFormed}
 use Rattle.apportionment.specs.declared.Method.the-variants.{Leximin}
@@ -76,3 +76,7 @@ linesOf s =
 -- What reading a register gives.
 unfoldable pub readingOf : List ℕ → Reading
 readingOf s = cond (ltb registerLimit (length s)) (refused registerTooLong 0) (linesOf s)
+
+-- The populations that were read, without the 0s past them.
+abbrev pub populationsIn : Reading → List ℕ
+populationsIn r = take (r .states) (r .populations)

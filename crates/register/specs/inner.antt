@@ -5,3 +5,4 @@ pub mod Sound
 pub mod Examples
 pub mod Kept
 pub mod Rows
+pub mod Written

@@ -1,5 +1,6 @@
 // Registers in and text out, for the programs that people run. What the system cannot hand over or take is told on standard error.
 use apportionment::REGISTER_LIMIT;
+use libc::STDERR_FILENO;
 use libc::STDIN_FILENO;
 use libc::STDOUT_FILENO;
 ghost use Rattle.io.specs.Counts.{Counts};
@@ -74,6 +75,25 @@ pub fn read_argument(argument: usize, bytes: &mut [u8]) -> Input
     let input = read_from(fd, &path[..size], bytes);
     libc::close(fd);
     input
+}
+
+// Reads the one register that a program takes: from the file that its argument names, or from standard input where there is none. Given
+// more arguments it reads nothing and tells the usage.
+pub fn read_register(usage: &[u8], bytes: &mut [u8]) -> Input
+    ensures { λ r. ⌜ Counts (r .length) (now (bytes .exit)) ⌝ }
+{
+    let arguments = os::arg_count();
+    if 2 < arguments {
+        io::write_all(STDERR_FILENO, usage);
+        return Input {
+            whole: false,
+            length: 0,
+        };
+    }
+    if 1 < arguments {
+        return read_argument(1, bytes);
+    }
+    read_standard_input(bytes)
 }
 
 // Writes text to standard output, and says whether it was taken. A caller that has more to write stops where it was not, so that the error

@@ -2,6 +2,7 @@
 // did not fit, that is one past the buffer's length, and every later call leaves it there and the buffer as it is. So a caller writes all
 // that it has and asks once, at the end, whether it fitted. No function reads the place as an index before it is known to be one.
 pub mod answers;
+pub mod handover;
 
 use apportionment::Mark;
 use apportionment::Method;
@@ -9,14 +10,12 @@ use apportionment::methods;
 ghost use mathlib.Core.Path.{_≡_};
 ghost use mathlib.Core.List.{_∷_, []};
 ghost use Prim.Native.Nat.{_+_, _<_, _≤_};
-ghost use lib.Dec.{leb};
 ghost use lib.ListN.{length};
 ghost use Rattle.apportionment.specs.Text.{decimal, digit};
 ghost use Rattle.apportionment.specs.Methods.{methodText};
 ghost use Rattle.apportionment.specs.Quantities.{shownSizeText, shownText, markText};
 ghost use Rattle.text.specs.Writing.{Wrote, laid};
-ghost use Rattle.text.specs.inner.Writing.{copiedOut};
-ghost use Rattle.text.specs.Shared.{numbersText, totalLine, refusalLine};
+ghost use Rattle.text.specs.Shared.{numbersText, headLine, totalLine, refusalLine};
 
 // One byte.
 pub fn put_byte(out: &mut [u8], at: usize, byte: u8) -> usize
@@ -130,6 +129,24 @@ pub fn put_numbers(out: &mut [u8], at: usize, x: u64, y: u64) -> usize
     put_decimal(out, next, y)
 }
 
+// Line 1 of a text: its word, the method, the house and the number of states.
+pub fn put_head(
+    out: &mut [u8],
+    at: usize,
+    word: &[u8],
+    method: Method,
+    house: u64,
+    states: u64,
+) -> usize
+    ensures { λ r. ⌜ Wrote (now (out .entry)) at (headLine (now (word .entry)) method house states) (now (out .exit)) r ⌝ }
+{
+    let first = put_bytes(out, at, word);
+    let comma = put_byte(out, first, b',');
+    let named = put_method(out, comma, method);
+    let numbers = put_numbers(out, named, house, states);
+    put_byte(out, numbers, b'\n')
+}
+
 // The line of totals: P, and the seats allotted.
 pub fn put_total(out: &mut [u8], at: usize, total: u64, allotted: u64) -> usize
     ensures { λ r. ⌜ Wrote (now (out .entry)) at (totalLine total allotted) (now (out .exit)) r ⌝ }
@@ -146,16 +163,4 @@ pub fn put_refusal(out: &mut [u8], at: usize, number: u64, line: u64) -> usize
     let word = put_bytes(out, at, b"refused");
     let numbers = put_numbers(out, word, number, line);
     put_byte(out, numbers, b'\n')
-}
-
-// A finished text, copied to the front of a lent buffer if it fits; otherwise the buffer keeps every byte. Says which.
-pub fn copy_out(text: &[u8], buffer: &mut [u8]) -> bool
-    ensures fitted { λ r. ⌜ r ≡ leb (length (now (text .entry))) (length (now (buffer .entry))) ⌝ }
-    ensures copied { λ _. ⌜ now (buffer .exit) ≡ copiedOut (now (text .entry)) (now (buffer .entry)) ⌝ }
-{
-    if text.len() <= buffer.len() {
-        put_bytes(buffer, 0, text);
-        return true;
-    }
-    false
 }

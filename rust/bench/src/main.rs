@@ -2,9 +2,10 @@
 //! Markdown tables: the library's time over the reference's, and the library's own times. With the
 //! word `programs` it times whole programs at the limits instead, with the word `worst` inputs full
 //! of ties beside the fastest plain programs, with the word `quota` the quota method at the limits,
-//! which `worst` prints too, and with the word `sweep` every house under leximin for several kinds of
-//! populations. Build it with `--release`.
+//! which `worst` prints too, with the word `sweep` every house under leximin for several kinds of
+//! populations, and with the word `clean` clean copies of registers. Build it with `--release`.
 
+mod clean;
 mod events;
 mod families;
 mod growth;
@@ -66,7 +67,8 @@ fn main() {
         Some("worst") => worst::time_it(),
         Some("quota") => quota::print_it(),
         Some("sweep") => sweep::print_it(),
-        Some(_) => eprintln!("usage: bench [programs | worst | quota | sweep]"),
+        Some("clean") => clean::print_it(),
+        Some(_) => eprintln!("usage: bench [programs | worst | quota | sweep | clean]"),
     }
 }
 

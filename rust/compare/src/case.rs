@@ -5,7 +5,8 @@ use std::fmt;
 
 #[derive(Clone, Debug, PartialEq, Eq)]
 pub enum Case {
-    /// Reading, the name at a place, and the listing in a buffer with some room.
+    /// Reading, the name at a place, the listing in a buffer with some room, and the clean copy in
+    /// buffers next to its own length.
     Register {
         room: usize,
         place: usize,
@@ -42,10 +43,12 @@ pub enum Case {
         before: Vec<u64>,
         after: Vec<u64>,
     },
+    /// The clean copies of two registers.
+    Copies { first: Vec<u8>, second: Vec<u8> },
 }
 
 impl Case {
-    pub const KINDS: [&'static str; 7] = [
+    pub const KINDS: [&'static str; 8] = [
         "register",
         "allot",
         "walk",
@@ -53,6 +56,7 @@ impl Case {
         "departure",
         "growth",
         "polls",
+        "copies",
     ];
 
     /// The case's place among the kinds.
@@ -65,6 +69,7 @@ impl Case {
             Case::Departure { .. } => 4,
             Case::Growth { .. } => 5,
             Case::Polls { .. } => 6,
+            Case::Copies { .. } => 7,
         }
     }
 
@@ -114,6 +119,10 @@ impl Case {
                 before: parse_list(before)?,
                 after: parse_list(after)?,
             }),
+            ["copies", first, second] => Some(Case::Copies {
+                first: parse_bytes(first)?,
+                second: parse_bytes(second)?,
+            }),
             _ => None,
         }
     }
@@ -162,6 +171,9 @@ impl fmt::Display for Case {
             } => {
                 let (before, after) = (show_list(before), show_list(after));
                 write!(f, "{method} {house} {before} {after}")
+            }
+            Case::Copies { first, second } => {
+                write!(f, "{} {}", show_bytes(first), show_bytes(second))
             }
         }
     }

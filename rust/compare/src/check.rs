@@ -1,16 +1,16 @@
 //! One case given to both desks. The library's answers come through the C interface, with guards
 //! around everything it is lent; the reference's are put into the same form. Where a case is about
-//! growth, the library's seats are held to a law too.
+//! growth, the library's seats are held to a law too, and so is every clean copy that it writes.
 
 use crate::growth::{self, Poll};
-use crate::Case;
+use crate::{clean, Case};
 use desk::ffi;
 use reference::{Mark, Method, Placing, Refusal, Register, STATES_LIMIT};
 use std::fmt::Debug;
 
 /// What a run has seen: inputs by kind, calls to the library, answers by refusal number (0 where
 /// none was given), placings and allotments compared with the search, and what came of the laws of
-/// growth.
+/// growth and of clean copies.
 #[derive(Clone, Debug)]
 pub struct Counts {
     pub inputs: [u64; Case::KINDS.len()],
@@ -22,6 +22,12 @@ pub struct Counts {
     /// Pairs of polls in which seats moved from some states to others, under the methods that keep
     /// the law; where none moves, nothing can break it.
     pub moved: u64,
+    /// Clean copies that were read and cleaned again.
+    pub copies: u64,
+    /// Pairs of accepted registers that say the same, and whose clean copies are equal.
+    pub equal_copies: u64,
+    /// Pairs of accepted registers that do not say the same, and whose clean copies are not equal.
+    pub other_copies: u64,
 }
 
 /// What came of a law, by method: how often it was held by those that keep it, and how often it was
@@ -42,6 +48,9 @@ impl Default for Counts {
             one_seat_more: Outcomes::default(),
             two_polls: Outcomes::default(),
             moved: 0,
+            copies: 0,
+            equal_copies: 0,
+            other_copies: 0,
         }
     }
 }
@@ -55,6 +64,9 @@ impl Counts {
         self.one_seat_more.add(&other.one_seat_more);
         self.two_polls.add(&other.two_polls);
         self.moved += other.moved;
+        self.copies += other.copies;
+        self.equal_copies += other.equal_copies;
+        self.other_copies += other.other_copies;
     }
 
     fn call(&mut self, refusal: u64) {
@@ -100,7 +112,8 @@ pub fn check(case: &Case, counts: &mut Counts) -> Result<(), String> {
         Case::Register { room, place, bytes } => {
             check_read(bytes, counts)?;
             check_name(bytes, *place, counts)?;
-            check_listing(bytes, *room, counts)
+            check_listing(bytes, *room, counts)?;
+            check_clean(bytes, counts).map(|_| ())
         }
         Case::Allot {
             method,
@@ -127,6 +140,7 @@ pub fn check(case: &Case, counts: &mut Counts) -> Result<(), String> {
             before,
             after,
         } => check_polls(*method, *house, before, after, counts),
+        Case::Copies { first, second } => check_copies(first, second, counts),
     }
 }
 
@@ -167,14 +181,32 @@ impl<T: Copy + PartialEq + Debug> Lent<T> {
     }
 }
 
+impl Lent<u8> {
+    /// Bytes to be written, filled with what they must not lose: the same ones over and over, which
+    /// are there quickly.
+    fn bytes_to_fill(length: usize) -> Lent<u8> {
+        let filled = length + 2 * GUARD;
+        let mut whole = JUNK_BYTES.repeat(filled.div_ceil(JUNK_BYTES.len()));
+        whole.truncate(filled);
+        Lent { whole, length }
+    }
+}
+
 /// Around a register: an end of line and what could go on after it, to be seen if read.
 const BYTES_GUARD: [u8; GUARD] = *b"\ntotal,1\n0,1\ntotal,2\nregister,\r\n";
 /// Around populations: numbers that would change an allotment.
 const NUMBERS_GUARD: [u64; GUARD] = [3; GUARD];
 
-fn junk_byte(i: usize) -> u8 {
-    (i as u8).wrapping_mul(37) ^ 0xA5
-}
+/// Each byte once, in no order.
+const JUNK_BYTES: [u8; 256] = {
+    let mut bytes = [0; 256];
+    let mut i = 0;
+    while i < bytes.len() {
+        bytes[i] = (i as u8).wrapping_mul(37) ^ 0xA5;
+        i += 1;
+    }
+    bytes
+};
 
 fn junk_number(i: usize) -> u64 {
     (i as u64 + 1).wrapping_mul(0x9E37_79B9_7F4A_7C15)
@@ -196,6 +228,16 @@ fn same<T: PartialEq + Debug>(what: &str, expected: &T, found: &T) -> Result<(),
         about(&expected),
         about(&found)
     ))
+}
+
+/// Texts are compared as bytes; where they differ they are shown as text if that shows it.
+fn same_text(what: &str, expected: &[u8], found: &[u8]) -> Result<(), String> {
+    if expected == found {
+        return Ok(());
+    }
+    let text = String::from_utf8_lossy;
+    same(what, &text(expected), &text(found))?;
+    same(what, &expected, &found)
 }
 
 // ---- Registers
@@ -264,8 +306,23 @@ fn check_name(bytes: &[u8], place: usize, counts: &mut Counts) -> Result<(), Str
 }
 
 fn check_listing(bytes: &[u8], room: usize, counts: &mut Counts) -> Result<(), String> {
-    let mut written = Lent::to_fill(room, junk_byte);
-    let expected = match reference::write_listing(bytes, written.middle()) {
+    let mut expected = Lent::bytes_to_fill(room);
+    let answer = written(reference::write_listing(bytes, expected.middle()));
+    let mut lent = Lent::holding(bytes, &BYTES_GUARD);
+    let before = lent.whole.clone();
+    let mut out = Lent::bytes_to_fill(room);
+    // SAFETY: each pointer has as many bytes after it as its length says.
+    let found = unsafe { ffi::desk_listing(lent.pointer(), bytes.len(), out.pointer(), room) };
+    counts.call(answer.refusal);
+    same("desk_listing", &answer, &found)?;
+    same("register after desk_listing", &before, &lent.whole)?;
+    let what = "buffer after desk_listing, guards included";
+    same_text(what, &expected.whole, &out.whole)
+}
+
+/// What is handed back for a text that was written, or refused.
+fn written(answer: Result<usize, Refusal>) -> ffi::Written {
+    match answer {
         Ok(length) => ffi::Written {
             refusal: 0,
             line: 0,
@@ -276,25 +333,145 @@ fn check_listing(bytes: &[u8], room: usize, counts: &mut Counts) -> Result<(), S
             line: refusal.line,
             length: 0,
         },
-    };
+    }
+}
+
+// ---- Clean copies
+
+/// So many bytes more than a register has are room for its clean copy and some to spare.
+const SPARE: usize = 100;
+
+/// The clean copy of a register in buffers of several lengths: none, a byte too short, just long
+/// enough, a byte longer and much longer, or the first and the last if there is no copy. If there is
+/// one, it is held to its laws and handed back as the library wrote it.
+fn check_clean(bytes: &[u8], counts: &mut Counts) -> Result<Option<Vec<u8>>, String> {
+    let copy = reference::clean(bytes);
+    let mut rooms = vec![0, bytes.len() + SPARE];
+    if let Ok(copy) = &copy {
+        rooms.extend([copy.len() - 1, copy.len() + 1, copy.len()]);
+    }
     let mut lent = Lent::holding(bytes, &BYTES_GUARD);
     let before = lent.whole.clone();
-    let mut out = Lent::to_fill(room, junk_byte);
+    let mut last = None;
+    for room in rooms {
+        last = check_clean_in(&mut lent, &copy, room, counts)?;
+    }
+    same("register after desk_clean", &before, &lent.whole)?;
+    if let Some(copy) = &last {
+        check_copy(bytes, copy, counts)?;
+    }
+    Ok(last)
+}
+
+/// The clean copy in one buffer, as it should be or refused. Hands back what the library wrote, if it
+/// was not refused.
+fn check_clean_in(
+    lent: &mut Lent<u8>,
+    copy: &Result<Vec<u8>, Refusal>,
+    room: usize,
+    counts: &mut Counts,
+) -> Result<Option<Vec<u8>>, String> {
+    let mut expected = Lent::bytes_to_fill(room);
+    let answer = written(match copy {
+        Ok(copy) => reference::write_text(copy, expected.middle()),
+        Err(refusal) => Err(*refusal),
+    });
+    let mut out = Lent::bytes_to_fill(room);
     // SAFETY: each pointer has as many bytes after it as its length says.
-    let found = unsafe { ffi::desk_listing(lent.pointer(), bytes.len(), out.pointer(), room) };
-    counts.call(expected.refusal);
-    same("desk_listing", &expected, &found)?;
-    same("register after desk_listing", &before, &lent.whole)?;
-    let (expected, found) = (
-        String::from_utf8_lossy(&written.whole),
-        String::from_utf8_lossy(&out.whole),
-    );
-    same(
-        "buffer after desk_listing, guards included",
-        &expected,
-        &found,
-    )?;
-    same("bytes after desk_listing", &written.whole, &out.whole)
+    let found = unsafe { ffi::desk_clean(lent.pointer(), lent.length, out.pointer(), room) };
+    counts.call(answer.refusal);
+    same("desk_clean", &answer, &found)?;
+    let what = "buffer after desk_clean, guards included";
+    same_text(what, &expected.whole, &out.whole)?;
+    let length = found.length as usize;
+    Ok((found.refusal == 0).then(|| out.middle()[..length].to_vec()))
+}
+
+/// The laws of a single copy, by the library alone: it reads as its register does, and cleaned again
+/// it stays as it is.
+fn check_copy(bytes: &[u8], copy: &[u8], counts: &mut Counts) -> Result<(), String> {
+    let mut read = |text| library_read(text, bytes.len(), counts);
+    let register = read(bytes).map_err(|refusal| format!("cleaned, not read: {refusal:?}"))?;
+    clean::reads_alike(&register, &read(copy))?;
+    clean::stays(copy, &library_clean(copy, counts))?;
+    counts.copies += 1;
+    Ok(())
+}
+
+/// Two registers: the clean copy of each by itself, and if neither is refused, whether the copies are
+/// equal exactly where the registers say the same.
+fn check_copies(first: &[u8], second: &[u8], counts: &mut Counts) -> Result<(), String> {
+    check_read(first, counts)?;
+    check_read(second, counts)?;
+    let copies = (check_clean(first, counts)?, check_clean(second, counts)?);
+    let (Some(copy), Some(other)) = copies else {
+        return Ok(());
+    };
+    let (Ok(first), Ok(second)) = (reference::read(first), reference::read(second)) else {
+        return Ok(());
+    };
+    match clean::equal_where_same([&first, &second], [&copy, &other])? {
+        true => counts.equal_copies += 1,
+        false => counts.other_copies += 1,
+    }
+    Ok(())
+}
+
+/// A register as the library reads it, with the names at the places that are looked at.
+fn library_read<'a>(
+    bytes: &'a [u8],
+    chance: usize,
+    counts: &mut Counts,
+) -> Result<Register<'a>, Refusal> {
+    let read = desk::read(bytes).map_err(by_library);
+    counts.call(number(&read));
+    let read = read?;
+    let mut names = Vec::new();
+    for place in places(read.populations().len(), chance) {
+        let name = desk::name(bytes, place).map_err(by_library);
+        counts.call(number(&name));
+        names.push(name?);
+    }
+    Ok(Register {
+        method: Method::ALL[read.method() as usize],
+        house: read.house(),
+        total: read.total(),
+        names,
+        populations: read.populations().to_vec(),
+    })
+}
+
+/// The library's clean copy of a copy, in a buffer of just its length.
+fn library_clean(copy: &[u8], counts: &mut Counts) -> Result<Vec<u8>, Refusal> {
+    let mut again = Lent::bytes_to_fill(copy.len());
+    let answer = desk::write_clean(copy, again.middle()).map_err(by_library);
+    counts.call(number(&answer));
+    answer.map(|length| again.middle()[..length].to_vec())
+}
+
+fn by_library(refusal: desk::Refusal) -> Refusal {
+    Refusal {
+        number: refusal.number,
+        line: refusal.line,
+    }
+}
+
+/// The refusal's number, 0 where there is none.
+fn number<T>(answer: &Result<T, Refusal>) -> u64 {
+    answer.as_ref().map_or_else(|refusal| refusal.number, |_| 0)
+}
+
+/// So many names are looked at one by one.
+const FEW_NAMES: usize = 40;
+
+/// The places of the names that are looked at: all of them, or of many states the first, the last and
+/// one between by some number, since the library reads the register anew for each.
+fn places(n: usize, chance: usize) -> Vec<usize> {
+    if n <= FEW_NAMES {
+        (0..n).collect()
+    } else {
+        vec![0, chance % n, n - 1]
+    }
 }
 
 // ---- Allotting

@@ -40,6 +40,21 @@ impl Draft {
         }
     }
 
+    /// The same names and numbers in another dress: once in so many times a line ends in CR LF, and
+    /// as often a number has leading zeros, up to ten digits in all.
+    pub fn retype(&mut self, random: &mut Random, times: u64) {
+        for end in &mut self.ends {
+            if random.once_in(times) {
+                *end = b"\r\n".to_vec();
+            }
+        }
+        for (line, field) in numbers(self) {
+            if random.once_in(times) {
+                lead_with_zeros(random, &mut self.lines[line][field]);
+            }
+        }
+    }
+
     pub fn bytes(&self) -> Vec<u8> {
         let mut bytes = Vec::new();
         for (fields, end) in self.lines.iter().zip(&self.ends) {
@@ -88,19 +103,25 @@ pub fn sound(random: &mut Random) -> Draft {
     if random.once_in(4) {
         for place in numbers(&draft) {
             if random.once_in(2) {
-                let field = &mut draft.lines[place.0][place.1];
-                let zeros = random.below(11 - field.len() as u64) as usize;
-                field.splice(0..0, vec![b'0'; zeros]);
+                lead_with_zeros(random, &mut draft.lines[place.0][place.1]);
             }
         }
     }
     draft
 }
 
+/// Some zeros or none in front of a number, which has ten digits at most then.
+fn lead_with_zeros(random: &mut Random, number: &mut Vec<u8>) {
+    let zeros = random.below(11 - number.len() as u64) as usize;
+    number.splice(0..0, vec![b'0'; zeros]);
+}
+
 /// The style of names that have 32 bytes each.
 pub const LONG_NAMES: u64 = 2;
+/// The number of styles; the last one is left to registers that are cleaned.
+pub const STYLES: u64 = 6;
 
-/// So many different names, in one of five styles.
+/// So many different names, in one of the styles.
 pub fn names(style: u64, count: usize) -> Vec<String> {
     (0..count).map(|place| name(style, place)).collect()
 }
@@ -114,7 +135,9 @@ fn name(style: u64, place: usize) -> String {
         3 => ["total", "register", "leximin", "0", "!", "~", "a", "A"]
             .get(place)
             .map_or_else(|| format!("{}", 1000 + place), |word| word.to_string()),
-        _ => format!("{}{place}", "x".repeat(place % 29)),
+        4 => format!("{}{place}", "x".repeat(place % 29)),
+        // Names that would be other names, or the same, if they lost their zeros.
+        _ => format!("{}{}", "0".repeat(place % 5), place / 5),
     }
 }
 
@@ -267,7 +290,7 @@ fn harmed_field(random: &mut Random, field: &[u8]) -> Vec<u8> {
 }
 
 /// Damage to single bytes: cut, changed, inserted, doubled, taken out.
-fn harm_bytes(random: &mut Random, bytes: &mut Vec<u8>) {
+pub fn harm_bytes(random: &mut Random, bytes: &mut Vec<u8>) {
     if bytes.is_empty() {
         return;
     }

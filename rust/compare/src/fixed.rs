@@ -1,8 +1,9 @@
 //! Inputs that every run begins with: the document's examples, departures that are hard to round,
 //! the limits, equal quotients at the largest seats, the quota method at every house of some
-//! problems and at the limits, one seat more and two polls, the longest registers, and one register
-//! cut, changed, filled and thinned at every byte.
+//! problems and at the limits, one seat more and two polls, pairs of registers to be cleaned, the
+//! longest registers, and one register cut, changed, filled and thinned at every byte.
 
+use crate::copies::Content;
 use crate::damage::{self, Draft};
 use crate::growth::ONE_SEAT_MORE;
 use crate::random::Random;
@@ -24,6 +25,8 @@ pub fn fixed(seed: u64) -> Vec<Case> {
     cases.extend(one_seat_more());
     cases.extend(one_seat_more_limits());
     cases.extend(two_polls());
+    cases.extend(copies());
+    cases.extend(longest_copies());
     cases.extend(longest_walk());
     cases.extend(longest_registers(random));
     cases.extend(alike(random));
@@ -453,6 +456,92 @@ fn two_polls() -> Vec<Case> {
     cases
 }
 
+/// Pairs of registers, the first typed plainly and the second with leading zeros and CR LF, that are
+/// the same but for one thing: the method, the house, a name, a population, or which states there are
+/// and in what order. Each is set beside each, itself included. Then some where one is refused.
+fn copies() -> Vec<Case> {
+    let two = said(20, &[("North", 7), ("South", 13)]);
+    let methods = Method::ALL.map(|method| Content {
+        method,
+        ..two.clone()
+    });
+    let houses = [1, 2, 10, 100, HOUSE_LIMIT].map(|house| Content {
+        house,
+        ..two.clone()
+    });
+    let long = "~".repeat(32);
+    let names = [
+        "A", "a", "AA", "A A", "A  A", "0", "00", "007", "7", "total", &long,
+    ];
+    let names = names.map(|name| said(20, &[(name, 7), ("South", 13)]));
+    let populations = [1, 10, 12, 21, 100, SUM_LIMIT - 13];
+    let populations = populations.map(|p| said(20, &[("North", p), ("South", 13)]));
+    let orders: [&[(&str, u64)]; 6] = [
+        &[("A", 1), ("B", 2), ("C", 3)],
+        &[("B", 2), ("A", 1), ("C", 3)],
+        &[("B", 1), ("A", 2), ("C", 3)],
+        &[("A", 1), ("B", 2), ("C", 3), ("total", 6)],
+        &[("A", 1), ("B", 5)],
+        &[("A", 6)],
+    ];
+    let orders = orders.map(|states| said(3, states));
+    let groups: [&[Content]; 5] = [&methods, &houses, &names, &populations, &orders];
+    let mut cases = Vec::new();
+    for group in groups {
+        for first in group {
+            cases.extend(group.iter().map(|second| pair(first, second)));
+        }
+    }
+    let past = said(HOUSE_LIMIT + 1, &[("North", 7), ("South", 13)]);
+    for (first, second) in [(&two, &past), (&past, &two), (&past, &past)] {
+        cases.push(pair(first, second));
+    }
+    cases
+}
+
+/// A register of Hill's.
+fn said(house: u64, states: &[(&str, u64)]) -> Content {
+    Content {
+        method: Method::Hill,
+        house,
+        names: states.iter().map(|(name, _)| name.to_string()).collect(),
+        populations: states.iter().map(|(_, population)| *population).collect(),
+    }
+}
+
+/// Two registers, the second typed with as many bytes as it can have.
+fn pair(first: &Content, second: &Content) -> Case {
+    Case::Copies {
+        first: first.plain().bytes(),
+        second: second.wide().bytes(),
+    }
+}
+
+/// A register of as many states as can be, of the longest names and the largest sum, beside itself
+/// and beside one that differs in its last lines only.
+fn longest_copies() -> Vec<Case> {
+    let mut populations = vec![SUM_LIMIT / MOST_STATES; STATES_LIMIT];
+    populations[0] += SUM_LIMIT % MOST_STATES;
+    let longest = Content {
+        method: Method::Remainders,
+        house: HOUSE_LIMIT,
+        names: damage::names(damage::LONG_NAMES, STATES_LIMIT),
+        populations,
+    };
+    let last = STATES_LIMIT - 1;
+    let mut name = longest.clone();
+    name.names[last].replace_range(0..1, "}");
+    let mut population = longest.clone();
+    population.populations[last] -= 1;
+    let mut order = longest.clone();
+    order.names.swap(last - 1, last);
+    let mut fewer = longest.clone();
+    fewer.names.pop();
+    fewer.populations.pop();
+    let others = [&longest, &name, &population, &order, &fewer];
+    others.map(|other| pair(&longest, other)).to_vec()
+}
+
 /// One state has all voters but one for each other, and gives up a seat at every step: the longest
 /// walk we know, of as many steps as there are other states.
 fn longest_walk() -> Vec<Case> {
@@ -580,6 +669,23 @@ mod tests {
         assert_eq!(bytes.len(), 36_061);
         assert_eq!(reference::read(&bytes).unwrap().names.len(), STATES_LIMIT);
         assert_eq!(wide("remainders", 1_455).bytes().len(), BYTES_LIMIT);
+    }
+
+    #[test]
+    fn of_the_pairs_to_be_cleaned_each_says_the_same_as_itself_alone() {
+        let mut said = [0, 0];
+        for case in copies().into_iter().chain(longest_copies()) {
+            let Case::Copies { first, second } = case else {
+                panic!("not a pair: {case:?}");
+            };
+            if let (Ok(first), Ok(second)) = (reference::read(&first), reference::read(&second)) {
+                said[(first == second) as usize] += 1;
+            }
+        }
+        let groups = [8, 5, 11, 6, 6];
+        let same: usize = groups.iter().sum();
+        let pairs: usize = groups.iter().map(|n| n * n).sum();
+        assert_eq!(said, [pairs - same + 4, same + 1]);
     }
 
     #[test]

@@ -1,9 +1,11 @@
 //! The proved desk against the plain reference: seeded inputs are given to both through the C
 //! interface, and every number, list and lent buffer that comes back has to agree. The seats are
-//! held to the laws of growth besides.
+//! held to the laws of growth besides, and clean copies to their own laws.
 
 mod case;
 mod check;
+pub mod clean;
+mod copies;
 mod damage;
 mod fixed;
 pub mod growth;

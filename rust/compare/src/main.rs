@@ -1,6 +1,7 @@
 //! `compare --seed S --count N` gives N inputs to the proved desk and to the plain reference and
-//! ends with a line of counts; an input on which they differ, or whose seats break a law of growth
-//! that their method keeps, is printed as a line that `compare --replay LINE` runs again.
+//! ends with a line of counts; an input on which they differ, whose seats break a law of growth that
+//! their method keeps, or whose clean copies break theirs, is printed as a line that
+//! `compare --replay LINE` runs again.
 
 use compare::{check, Case, Counts, Inputs};
 use std::io::Read;
@@ -133,7 +134,7 @@ fn run(options: &Options) -> bool {
 }
 
 /// What was compared, in one line: inputs of each kind, calls, answers by refusal number, and what
-/// came of the laws of growth.
+/// came of the laws of growth and of clean copies.
 fn closing_line(seed: u64, counts: &Counts, differing: usize) -> String {
     let kinds = Case::KINDS.iter().zip(counts.inputs);
     let kinds: Vec<String> = kinds
@@ -149,7 +150,9 @@ fn closing_line(seed: u64, counts: &Counts, differing: usize) -> String {
     format!(
         "seed {seed}: {} inputs ({}), {} calls, {} searched through, accepted {}, refused {}; \
          one seat more held {} times and two polls {} times ({} with seats moved), \
-         broken {} and {} times under methods that are excepted; {differing} differ",
+         broken {} and {} times under methods that are excepted; \
+         {} clean copies read and cleaned again, of pairs of registers {} had equal ones and {} had \
+         not; {differing} differ",
         sum(&counts.inputs),
         kinds.join(", "),
         counts.calls,
@@ -161,5 +164,8 @@ fn closing_line(seed: u64, counts: &Counts, differing: usize) -> String {
         counts.moved,
         sum(&more.broken),
         sum(&polls.broken),
+        counts.copies,
+        counts.equal_copies,
+        counts.other_copies,
     )
 }

@@ -1,5 +1,6 @@
 //! Seeded inputs of every kind.
 
+use crate::copies;
 use crate::damage::{self, Draft};
 use crate::growth::{ONE_SEAT_MORE, TWO_POLLS};
 use crate::polls::polls;
@@ -12,7 +13,11 @@ use reference::{Method, BYTES_LIMIT, HOUSE_LIMIT, SUM_LIMIT};
 pub fn seeded(seed: u64, number: u64) -> Case {
     let random = &mut Random::new(seed, number);
     match random.below(20) {
-        0..=5 => register(random),
+        0..=4 => register(random),
+        5 => {
+            let (first, second) = copies::pair(random);
+            Case::Copies { first, second }
+        }
         6..=9 => allot(random),
         10..=12 => walk(random),
         13..=15 => Case::Step {
@@ -25,7 +30,7 @@ pub fn seeded(seed: u64, number: u64) -> Case {
 }
 
 fn register(random: &mut Random) -> Case {
-    let bytes = match random.below(500) {
+    let bytes = match random.below(400) {
         0 => filled(random),
         1 | 2 => many_lines(random),
         _ => damage::register(random),

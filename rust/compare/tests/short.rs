@@ -24,6 +24,7 @@ fn the_fixed_inputs_and_some_seeded_ones_agree_and_meet_every_refusal() {
         assert!(counts.refusals[number] > 0, "{number} was never met");
     }
     assert!(counts.searched > 400);
+    assert!(counts.copies > 1_000);
 }
 
 fn lines(bytes: &[u8]) -> usize {
@@ -33,7 +34,7 @@ fn lines(bytes: &[u8]) -> usize {
 /// House and states of an input; a register's are those of its head, if it has as many lines.
 fn house_and_states(case: &Case) -> Option<(u64, usize)> {
     match case {
-        Case::Register { bytes, .. } => {
+        Case::Register { bytes, .. } | Case::Copies { first: bytes, .. } => {
             let text = std::str::from_utf8(bytes).ok()?;
             let fields: Vec<&str> = text.lines().next()?.split(',').collect();
             let [_, _, house, states] = fields[..] else {

@@ -53,7 +53,7 @@ pub struct Shown {
     pub mark: u64,
 }
 
-/// A listing written, and its length.
+/// A text written, a listing or a clean copy, and its length.
 #[repr(C)]
 #[derive(Clone, Copy, Debug, PartialEq, Eq)]
 pub struct Written {
@@ -86,5 +86,6 @@ extern "C" {
     pub fn desk_step(placing: Placing) -> Placed;
     pub fn desk_departure(population: u64, seats: u64, total: u64, house: u64) -> Shown;
     pub fn desk_listing(bytes: *const u8, length: usize, out: *mut u8, room: usize) -> Written;
+    pub fn desk_clean(bytes: *const u8, length: usize, out: *mut u8, room: usize) -> Written;
     pub fn desk_name(bytes: *const u8, length: usize, place: usize) -> Part;
 }

@@ -1,7 +1,8 @@
 //! The proved allotment desk, called from Rust: it reads a register of states, allots a house by
-//! one of eight methods, shows leximin's work seat by seat and writes a listing. Every function
-//! here is a thin safe wrapper over the C interface in [`ffi`]. The library allocates nothing; a call
-//! takes up to 200 KiB of stack, as `include/desk.h` says for each operation.
+//! one of eight methods, shows leximin's work seat by seat, writes a listing, and writes clean
+//! copies of registers. Every function here is a thin safe wrapper over the C interface in [`ffi`].
+//! The library allocates nothing; a call takes up to 200 KiB of stack, as `include/desk.h` says for
+//! each operation.
 //!
 //! ```
 //! let register = b"register,leximin,3,2\nNorth,100\nSouth,200\ntotal,300\n";
@@ -36,6 +37,14 @@ const LINE_ROOM: usize = 67;
 const TOTAL_ROOM: usize = 23;
 /// Room for any listing, as the library is proved to.
 pub const LISTING_ROOM: usize = HEAD_ROOM + STATES_LIMIT * LINE_ROOM + TOTAL_ROOM;
+/// Room for a clean copy's first line: `register,remainders,30000,800` and its end.
+const CLEAN_HEAD_ROOM: usize = 30;
+/// Room for a state's line in a clean copy: a name of 32 bytes, `,4294967295` and its end.
+const CLEAN_LINE_ROOM: usize = 44;
+/// Room for a clean copy's closing line: `total,4294967295` and its end.
+const CLEAN_TOTAL_ROOM: usize = 17;
+/// Room for any clean copy of a register, as the library is proved to.
+pub const CLEAN_ROOM: usize = CLEAN_HEAD_ROOM + STATES_LIMIT * CLEAN_LINE_ROOM + CLEAN_TOTAL_ROOM;
 
 /// Why an operation was refused: document 01's number, and the line of the register counted from
 /// 1, or 0 where no line applies.
@@ -260,6 +269,37 @@ pub fn write_listing(bytes: &[u8], out: &mut [u8]) -> Result<usize, Refusal> {
 pub fn listing(bytes: &[u8]) -> Result<Vec<u8>, Refusal> {
     let mut out = vec![0; LISTING_ROOM];
     let length = write_listing(bytes, &mut out)?;
+    out.truncate(length);
+    Ok(out)
+}
+
+/// Writes the clean copy of a register at the front of a lent buffer and hands back its length:
+/// reading's refusals, then 31 if it is longer than the buffer. Refused, the buffer is left as it
+/// was, as are the bytes after the copy otherwise.
+pub fn write_clean(bytes: &[u8], out: &mut [u8]) -> Result<usize, Refusal> {
+    // SAFETY: each pointer stands with its own slice's length, and the two do not overlap.
+    let written =
+        unsafe { ffi::desk_clean(bytes.as_ptr(), bytes.len(), out.as_mut_ptr(), out.len()) };
+    outcome(written.refusal, written.line)?;
+    Ok(written.length as usize)
+}
+
+/// The clean copy of a register: the same lines, each ended by LF alone and its numbers without
+/// leading zeros. It reads as the register does, names included, and its own clean copy is the same
+/// bytes. Two registers have equal clean copies exactly where method, house, names and populations
+/// agree in order.
+///
+/// ```
+/// let typed = b"register,hill,0020,02\r\nNorth,007\nSouth,0013\r\ntotal,020\r\n";
+/// let other = b"register,hill,20,2\r\nNorth,7\r\nSouth,13\r\ntotal,0000000020\n";
+///
+/// let copy = desk::clean(typed).unwrap();
+/// assert_eq!(copy, b"register,hill,20,2\nNorth,7\nSouth,13\ntotal,20\n");
+/// assert_eq!(desk::clean(other).unwrap(), copy);
+/// ```
+pub fn clean(bytes: &[u8]) -> Result<Vec<u8>, Refusal> {
+    let mut out = vec![0; CLEAN_ROOM];
+    let length = write_clean(bytes, &mut out)?;
     out.truncate(length);
     Ok(out)
 }

@@ -254,6 +254,99 @@ fn a_register_at_the_limits_is_read_and_listed() {
     }
 }
 
+/// A register typed with leading zeros and mixed line ends, and its clean copy.
+const TYPED: &[u8] = b"register,hill,0020,02\r\nNew  York,007\n007,0013\r\ntotal,020\r\n";
+const CLEAN: &[u8] = b"register,hill,20,2\nNew  York,7\n007,13\ntotal,20\n";
+
+#[test]
+fn a_clean_copy_has_no_leading_zeros_and_plain_line_ends() {
+    assert_eq!(clean(TYPED).unwrap(), CLEAN);
+    assert_eq!(clean(CLEAN).unwrap(), CLEAN);
+    assert_eq!(read(CLEAN), read(TYPED));
+    for place in 0..3 {
+        assert_eq!(name(CLEAN, place), name(TYPED, place));
+    }
+    for file in ["five-states", "hungary-counties", "united-states-hill"] {
+        let register = example(&format!("{file}.register"));
+        assert_eq!(clean(&register).unwrap(), register, "{file}");
+    }
+}
+
+#[test]
+fn a_clean_copy_fits_exactly_or_is_refused_31() {
+    let too_short = Refusal {
+        number: 31,
+        line: 0,
+    };
+    for room in [0, 1, CLEAN.len() - 1] {
+        let mut out = vec![7; room];
+        assert_eq!(write_clean(TYPED, &mut out), Err(too_short));
+        assert_eq!(out, vec![7; room]);
+    }
+    for more in [0, 1, 100] {
+        let mut out = vec![7; CLEAN.len() + more];
+        assert_eq!(write_clean(TYPED, &mut out), Ok(CLEAN.len()));
+        assert_eq!(out[..CLEAN.len()], *CLEAN);
+        assert_eq!(out[CLEAN.len()..], vec![7; more]);
+    }
+}
+
+#[test]
+fn cleaning_is_refused_by_reading_before_31() {
+    let cut = &TYPED[..TYPED.len() - 1];
+    let long = vec![b'0'; 65_537];
+    let refused: [(&[u8], u64, u64); 8] = [
+        (&long, 1, 0),
+        (b"", 2, 1),
+        (cut, 2, 4),
+        (b"register,hill,0,1\nA,1\ntotal,1\n", 3, 1),
+        (b"register,Hill,3,1\nA,1\ntotal,1\n", 4, 1),
+        (b"register,hill,3,2\nA,1\nA,1\ntotal,2\n", 5, 3),
+        (b"register,hill,3,2\nA,4294967295\nB,1\ntotal,1\n", 6, 3),
+        (b"register,hill,3,1\nA,5\ntotal,4\n", 7, 3),
+    ];
+    for (register, number, line) in refused {
+        for room in [0, 10, 1_000] {
+            let mut out = vec![7; room];
+            let refusal = Refusal { number, line };
+            assert_eq!(write_clean(register, &mut out), Err(refusal));
+            assert_eq!(out, vec![7; room], "{refusal}");
+        }
+        assert_eq!(clean(register), Err(Refusal { number, line }));
+    }
+}
+
+#[test]
+fn a_house_below_the_states_is_cleaned_and_not_listed() {
+    let register = b"register,leximin,02,03\nA,1\nB,1\nC,1\ntotal,3\n";
+    assert_eq!(listing(register).unwrap_err().number, 15);
+    let copy = b"register,leximin,2,3\nA,1\nB,1\nC,1\ntotal,3\n";
+    assert_eq!(clean(register).unwrap(), copy);
+}
+
+#[test]
+fn the_longest_register_is_cleaned_with_every_name() {
+    let sum = 5_368_709 * STATES_LIMIT;
+    let mut typed = format!("register,remainders,{HOUSE_LIMIT:010},{STATES_LIMIT:010}\r\n");
+    let mut expected = format!("register,remainders,{HOUSE_LIMIT},{STATES_LIMIT}\n");
+    for i in 0..STATES_LIMIT {
+        typed += &format!("{i:~>32},{:010}\r\n", 5_368_709);
+        expected += &format!("{i:~>32},5368709\n");
+    }
+    typed += &format!("total,{sum:010}\r\n");
+    expected += &format!("total,{sum}\n");
+    let (typed, expected) = (typed.as_bytes(), expected.as_bytes());
+    let copy = clean(typed).unwrap();
+    assert_eq!(copy, expected);
+    assert!(copy.len() <= CLEAN_ROOM);
+    assert_eq!(CLEAN_ROOM, 35_247);
+    assert_eq!(read(&copy), read(typed));
+    for place in 0..=STATES_LIMIT {
+        assert_eq!(name(&copy, place), name(typed, place));
+    }
+    assert_eq!(clean(&copy).unwrap(), copy);
+}
+
 #[test]
 fn departures_are_shown_and_marked() {
     let shown = |shown, mark| Ok(Some(Departure { shown, mark }));

@@ -3,12 +3,14 @@
 //! one by one, sorting, and for small problems a search through every allotment.
 
 mod allotting;
+mod clean;
 mod departure;
 mod leximin;
 mod listing;
 mod register;
 
 pub use allotting::{allot, check_problem};
+pub use clean::{clean, write_clean};
 pub use departure::{departure, mark_name, shown_text, Mark, SHOWN_SCALE};
 pub use leximin::{open, search, way, Placing};
 pub use listing::{listing, write_listing};
@@ -34,6 +36,14 @@ pub struct Refusal {
 /// A refusal that no line of a register applies to.
 pub(crate) fn refusal(number: u64) -> Refusal {
     Refusal { number, line: 0 }
+}
+
+/// Writes a text at the front of a lent buffer and hands back its length: 31 if it is longer than
+/// the buffer. Refused, the buffer keeps its contents, as do the bytes after the text otherwise.
+pub fn write_text(text: &[u8], out: &mut [u8]) -> Result<usize, Refusal> {
+    let room = out.get_mut(..text.len()).ok_or(refusal(31))?;
+    room.copy_from_slice(text);
+    Ok(text.len())
 }
 
 /// The eight methods, in the order in which the document names them and the requests add to them.

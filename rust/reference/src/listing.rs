@@ -1,6 +1,6 @@
 //! The listing of a register's allotment.
 
-use crate::{allot, departure, mark_name, read, refusal, shown_text, Refusal};
+use crate::{allot, departure, mark_name, read, shown_text, write_text, Refusal};
 use std::io::Write;
 
 /// The listing for a register.
@@ -25,11 +25,7 @@ pub fn listing(bytes: &[u8]) -> Result<Vec<u8>, Refusal> {
     Ok(out)
 }
 
-/// Writes the listing into a lent buffer and hands back its length. Refused, the buffer keeps
-/// its contents, as do the bytes after the listing otherwise.
+/// Writes the listing into a lent buffer and hands back its length.
 pub fn write_listing(bytes: &[u8], out: &mut [u8]) -> Result<usize, Refusal> {
-    let listing = listing(bytes)?;
-    let room = out.get_mut(..listing.len()).ok_or(refusal(31))?;
-    room.copy_from_slice(&listing);
-    Ok(listing.len())
+    write_text(&listing(bytes)?, out)
 }

@@ -9,6 +9,11 @@ pub both : (t u : Bool) → cond t u false ≡ true → (t ≡ true) × (u ≡ t
 both true u h = (refl, h)
 both false u h = absurd (true≢false (sym h))
 
+-- A second test is made where the first fails, and holds.
+pub neither : (t u : Bool) → cond t false u ≡ true → u ≡ true
+neither true u h = absurd (true≢false (sym h))
+neither false u h = h
+
 -- A test t that was computed as r failed or passed where the code branched on `!r`.
 pub failed : {r t : Bool} → r ≡ t → not r ≡ true → t ≡ false
 failed {r} {t} e h = sym e ∙ not-true r h

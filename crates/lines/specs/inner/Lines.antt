@@ -135,6 +135,7 @@ pub record StateSound (first : List ℕ) (k sum : ℕ) (s : List ℕ) : Type 0 w
   pub named : isName (nameAt s) ≡ true
   pub numbered : isNumber (numberField s) ≡ true
   pub peopled : 1 ≤ numberAt s
+  pub unused : usedIn k first (nameAt s) ≡ false
   pub fits : sum + numberAt s ≤ sumLimit
 
 pub state-sound : (first : List ℕ) (k sum : ℕ) (s : List ℕ) → stateRefusal first k sum s ≡ accepted → StateSound first k sum s
@@ -149,5 +150,6 @@ state-sound first k sum s good =
       named = parts .0;
       numbered = parts .1;
       peopled = inside-limits sumLimit (numberAt s) (number .0) .0;
+      unused = name .0;
       fits = ltb-false sumLimit (sum + numberAt s) (total .0);
     }

@@ -3,7 +3,7 @@
 -- What reading gives does not speak of them: a reader who only wants the grammar need not read this file.
 -- Assumes nothing.
 use mathlib.Core.Path.{_≡_, refl, sym, ap, _∙_}
-use mathlib.Core.Bool.{Bool, true, false}
+use mathlib.Core.Bool.{Bool, true, false, true≢false}
 use mathlib.Core.List.{List, [], _∷_}
 use Prim.Native.Nat.{ℕ, zero, suc, zero-le, suc-le-suc, _+_, _-_, _<_, _≤_}
 use native.Mathlib.Nat.{le-refl, le-trans}
@@ -151,6 +151,12 @@ used-on (suc k) s name zero below same = rw same
 used-on (suc k) s name (suc i) below same =
     rw (used-on k (restOf s) name i (omega arith) same)
     (cond-both (λ (b : Bool). b ≡ true) (sameList (nameAt s) name) true true (λ _. refl) (λ _. refl))
+
+pub unused-on : (k : ℕ) (s name : List ℕ) → usedIn k s name ≡ false → (i : ℕ) → i < k → sameList (nameOn i s) name ≡ false
+unused-on k s name unused i below =
+    either-way (sameList (nameOn i s) name)
+    (λ same. absurd (true≢false (sym (used-on k s name i below same) ∙ unused)))
+    (λ other. other)
 
 pub used-on-none : (k : ℕ) (s name : List ℕ) → ((i : ℕ) → i < k → sameList (nameOn i s) name ≡ false)
     → usedIn k s name ≡ false

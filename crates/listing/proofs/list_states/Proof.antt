@@ -4,7 +4,8 @@
 use mathlib.Core.Path.{sym}
 use native.Mathlib.Omega.{arith}
 use lib.Seq.{length-take-le}
-use Rattle.listing.specs.inner.Listed.{good-sound, told-refused, told-listable, told-listed}
+use Rattle.register.specs.inner.Sound.{good-sound}
+use Rattle.listing.specs.inner.Listed.{told-refused, told-listable, told-listed}
 use borrow.Author.Needs.{needs}
 use Rattle.listing.proofs.list_states.Statement.{statement}
 use Rattle.listing.proofs.list_states.Tie as tie
@@ -50,8 +51,8 @@ returns c =
 of-requires : tie.Need-of-requires
 of-requires c κs = search needs
 
-hand-over-requires : tie.Need-hand-over-requires
-hand-over-requires c κs =
+list-seats-requires : tie.Need-list-seats-requires
+list-seats-requires c κs =
     let at-of = c .before .before in
     let at = allotted (at-of .before) in
     let pre = begun at .pre in (
@@ -67,12 +68,12 @@ same-length-3 c = search needs
 
 returns-2 : tie.Need-returns-2
 returns-2 c =
-    let at-hand-over = c .before .before in
-    let at-of = at-hand-over .before .before .before in
+    let at-list-seats = c .before .before in
+    let at-of = at-list-seats .before .before .before in
     let at = allotted (at-of .before) in
     let pre = begun at .pre .0 in
     told-listed (pre .0) (pre .1) (at .allot .ensures) (at-of .before .if1 .left) (at-of .of .ensures)
-    (at-hand-over .hand-over .ensures)
+    (at-list-seats .list-seats .ensures)
 
 pub list-states-spec : {M : Type 1} → statement M
 list-states-spec =
@@ -85,7 +86,7 @@ list-states-spec =
     same-length
     returns
     of-requires
-    hand-over-requires
+    list-seats-requires
     same-length-2
     same-length-3
     returns-2)

@@ -13,10 +13,13 @@ use Rattle.listing.proofs.put_listing.Tie as tie
 
 -- Where nothing is written yet, from where the head is.
 abbrev lent : tie.After-put-head → tie.After-shared-slice-known4
-lent c = c .before .before .before
+lent c = c .before .before .before .before
 
 abbrev start : tie.After-put-head → tie.Start
 start c = lent c .before .before .before .before .before
+
+slice-aggregate-put-head : tie.Need-slice-aggregate-put-head
+slice-aggregate-put-head c = search needs
 
 put-head-requires : tie.Need-put-head-requires
 put-head-requires c κs = search needs
@@ -64,6 +67,7 @@ pub put-listing-spec : {M : Type 1} → statement M
 put-listing-spec =
     tie.close
     (tie.spec
+    slice-aggregate-put-head
     put-head-requires
     array-share-prefix-populations
     slice-aggregate-put-states

@@ -2,7 +2,8 @@
 -- Assumes nothing.
 use native.Mathlib.Omega.{arith}
 use lib.ListN.{length-take}
-use Rattle.listing.specs.inner.Listed.{GoodReading, good-sound, reading-refused}
+use Rattle.register.specs.inner.Sound.{GoodReading, good-sound}
+use Rattle.listing.specs.inner.Listed.{reading-refused}
 use borrow.Author.Needs.{needs}
 use Rattle.listing.proofs.write_listing.Statement.{statement}
 use Rattle.listing.proofs.write_listing.Tie as tie

@@ -1,12 +1,8 @@
 -- Document 01's example, "The listing in full": the definitions give its listing, byte by byte.
 -- Assumes nothing.
 use mathlib.Core.Path.{_≡_, refl, ap, _∙_}
-use mathlib.Core.Bool.{cond}
 use mathlib.Core.List.{List, _++_}
 use Prim.Native.Nat.{ℕ}
-use lib.Dec.{eqb}
-use lib.ListN.{length}
-use Rattle.apportionment.specs.Refusals.{accepted}
 use Rattle.apportionment.specs.Text.{bytesOf, decimal, decimalWith}
 use Rattle.apportionment.specs.Lists.{sum}
 use Rattle.apportionment.specs.Quantities.{less, atMost, distance, sizeOf, isBelow, nearestWhole, shownSize, shownOf, shownSizeText}
@@ -21,9 +17,10 @@ use Rattle.register.specs.Names.{nameOf}
 use Rattle.register.specs.inner.Examples.{example, exampleReading, exampleName, examples-hold, example-named}
 use Rattle.register.specs.declared.Reading.{Reading}
 use Rattle.apportionment.specs.Methods.{methodText}
-use Rattle.text.specs.Shared.{numbersText, totalLine, refusalLine}
-use Rattle.listing.specs.Listing.{headLine, stateLine, stateLines, seatsIn, listingIn, listingOf, refused}
-use Rattle.listing.specs.Listing.{allotRefusalIn, fittedOf, listedIn, listedOf, printedOf}
+use Rattle.text.specs.Shared.{numbersText, headLine, totalLine}
+use Rattle.text.specs.Handover.{printedOf}
+use Rattle.listing.specs.Listing.{stateLine, stateLines, seatsIn, listingIn, listingOf}
+use Rattle.listing.specs.Listing.{allotRefusalIn, listRefusalIn, listingPrinted}
 use Rattle.listing.specs.inner.Rows.{same-listing}
 
 abbrev exampleListing : List ℕ
@@ -52,12 +49,10 @@ listing-is =
 
 -- .. which is not refused, so that the program prints it.
 printed-by-parts : (r : Reading) (text : List ℕ) → r ≡ exampleReading → text ≡ exampleListing
-    → let listed = listedIn r text (length text) in
-    cond (eqb (listed .refusal) accepted) text (refusalLine (listed .refusal) (listed .line)) ≡ exampleListing
-unfolding listedIn fittedOf refused allotRefusalIn sum within outside firstRefusal statesOutside houseOutside hasZero sumOutside listMisfits
+    → printedOf (listRefusalIn r) (r .line) text ≡ exampleListing
+unfolding printedOf listRefusalIn allotRefusalIn sum within outside firstRefusal statesOutside houseOutside hasZero sumOutside listMisfits
     seatsTooFew problemChecks allotRefusal
 printed-by-parts r text reading listing = rw (reading, listing)
 
-pub example-printed : printedOf example ≡ exampleListing
-unfolding printedOf listedOf
+pub example-printed : listingPrinted example ≡ exampleListing
 example-printed = printed-by-parts (readingOf example) (listingOf example) (examples-hold .0) listing-is

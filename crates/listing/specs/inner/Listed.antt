@@ -1,32 +1,31 @@
 -- What writing a listing comes to in each of its cases, and why every listing fits the array in which it is first written: what neither
 -- reading nor allotting refuses is within every limit.
 -- Assumes nothing.
-use mathlib.Core.Path.{_≡_, sym, ap, _∙_}
-use mathlib.Core.Bool.{Bool, true, false, cond}
-use mathlib.Core.List.{List, _++_}
-use Prim.Native.Nat.{ℕ, _+_, _<_, _≤_}
+use mathlib.Core.Path.{_≡_, refl, sym, ap, _∙_}
+use mathlib.Core.List.{List}
+use Prim.Native.Nat.{ℕ, _<_, _≤_}
 use native.Mathlib.Omega.{arith}
-use borrow.Author.Tests.{eq-eqb, ne-eqb}
-use lib.Dec.{leb, eqb}
-use lib.ListN.{length, getD, take, drop}
+use borrow.Author.Tests.{eq-eqb, ne-eqb, eqb-true, eqb-false}
+use lib.Dec.{eqb}
+use lib.ListN.{length, getD}
 use lib.Seq.{length-take-le}
 use Rattle.apportionment.specs.inner.Tests.{either-way}
-use Rattle.apportionment.specs.Refusals.{accepted, bufferTooShort}
+use Rattle.apportionment.specs.Refusals.{accepted}
 use Rattle.apportionment.specs.inner.Lists.{entry-at-most-sum}
 use Rattle.apportionment.specs.Allotment.{seatsAfter}
 use Rattle.problem.specs.inner.Passed.{Allottable, allot-passed}
 use Rattle.allot.specs.declared.Allotted.{Allotted}
 use Rattle.allot.specs.Allot.{allottedOf, AllotmentIs}
 use Rattle.departure.specs.inner.Answer.{InLimits}
-use Rattle.text.specs.inner.Writing.{copiedOut, AtFront}
-use Rattle.register.specs.Register.{readingOf}
+use Rattle.text.specs.Handover.{refused, WritingIs}
+use Rattle.text.specs.inner.Handover.{writing-refused}
+use Rattle.text.specs.declared.handover.Written.{Written}
+use Rattle.register.specs.Register.{readingOf, populationsIn}
 use Rattle.register.specs.declared.Reading.{Reading}
 use Rattle.register.specs.Names.{rowsOf, nameInRow}
-use Rattle.register.specs.inner.Sound.{ReadingSound, reading-sound}
+use Rattle.register.specs.inner.Sound.{ReadingSound, reading-sound, reading-lined, GoodReading}
 use Rattle.register.specs.inner.Rows.{name-limited}
-use Rattle.listing.specs.declared.Listed.{Listed}
-use Rattle.listing.specs.Listing.{populationsIn, seatsIn, listingIn, listingOf, refused, allotRefusalIn, fittedOf, listedIn}
-use Rattle.listing.specs.Listing.{listedOf, bufferAfter, ListingIs}
+use Rattle.listing.specs.Listing.{seatsIn, listingIn, listingOf, allotRefusalIn, listRefusalIn, ListingIs}
 use Rattle.listing.specs.inner.Rows.{listing-by-rows}
 use Rattle.allot.specs.inner.Shared.{Shared, allotment-shared}
 use Rattle.listing.specs.inner.Room.{AllListable, listingRoom, listing-has-room}
@@ -90,66 +89,24 @@ module _ (s : List ℕ) (good : readingOf s .refusal ≡ accepted) (allotted : a
 -- A refusal of reading, with its line.
 pub reading-refused : (s before : List ℕ) → (readingOf s .refusal ≡ accepted → ⊥)
     → ListingIs s before (refused (readingOf s .refusal) (readingOf s .line)) before
-unfolding bufferAfter listedOf listedIn refused
+unfolding listRefusalIn
 reading-refused s before bad =
-    let test = ne-eqb (readingOf s .refusal) accepted bad in
-    record { answer = rw test; buffer = rw (test, test) }
+    writing-refused (listingOf s) before (rw (ne-eqb (readingOf s .refusal) accepted bad)) refl bad
 
--- A refusal of allotting.
-pub allotting-refused : (s before : List ℕ) → readingOf s .refusal ≡ accepted → (allotRefusalIn (readingOf s) ≡ accepted → ⊥)
-    → ListingIs s before (refused (allotRefusalIn (readingOf s)) 0) before
-unfolding bufferAfter listedOf listedIn refused
-allotting-refused s before good bad =
-    let test = eq-eqb (readingOf s .refusal) accepted good in
-    let next = ne-eqb (allotRefusalIn (readingOf s)) accepted bad in
-    record { answer = rw (test, next); buffer = rw (test, next, next) }
+-- Where reading does not refuse, allotting's refusal decides.
+allotting-decides : (s : List ℕ) → readingOf s .refusal ≡ accepted → listRefusalIn (readingOf s) ≡ allotRefusalIn (readingOf s)
+unfolding listRefusalIn
+allotting-decides s good = rw (eq-eqb (readingOf s .refusal) accepted good)
 
--- A listing handed over to a buffer, if it fits.
-pub record HandedOver (listing before : List ℕ) (r : Listed) (after : List ℕ) : Type 0 where
-  pub answer : r ≡ fittedOf listing (length before)
-  pub buffer : after ≡ copiedOut listing before
-
--- The finished text of a listing, copied out or found too long.
-module _ {listing page : List ℕ} {size : ℕ} (front : AtFront listing page size) {before after : List ℕ} {fits : Bool}
-    (tested : fits ≡ leb (length (take size page)) (length before)) (copied : after ≡ copiedOut (take size page) before) where
-  pub copied-over : fits ≡ true → HandedOver listing before (record { refusal = accepted; line = 0; size = size }) after
-  unfolding fittedOf
-  copied-over fitted =
-      let room : leb (length listing) (length before) ≡ true = rw (front .bytes) at (sym tested ∙ fitted) in
-      record { answer = rw (room, front .size); buffer = rw (front .bytes) at copied }
-
-  pub too-long : fits ≡ false → HandedOver listing before (refused bufferTooShort 0) after
-  unfolding fittedOf
-  too-long longer =
-      let room : leb (length listing) (length before) ≡ false = rw (front .bytes) at (sym tested ∙ longer) in
-      record { answer = rw room; buffer = rw (front .bytes) at copied }
-
-fitted-or-not : (listing before : List ℕ)
-    → copiedOut listing before
-    ≡ cond (eqb (fittedOf listing (length before) .refusal) accepted) (listing ++ drop (length listing) before) before
-unfolding copiedOut fittedOf refused
-fitted-or-not listing before = either-way (leb (length listing) (length before)) (λ fits. rw fits) (λ longer. rw longer)
-
-pub handed-over : {s before : List ℕ} {r : Listed} {after : List ℕ} → readingOf s .refusal ≡ accepted
-    → allotRefusalIn (readingOf s) ≡ accepted → HandedOver (listingOf s) before r after → ListingIs s before r after
-unfolding bufferAfter listedOf listedIn
-handed-over {s} {before} good allotted over =
-    let test = eq-eqb (readingOf s .refusal) accepted good in
-    let next = eq-eqb (allotRefusalIn (readingOf s)) accepted allotted in
-    record {
-      answer = over .answer ∙ rw (test, next);
-      buffer = over .buffer ∙ rw (test, next) (fitted-or-not (listingOf s) before);
-    }
+-- Every listing has room in a page of that size.
+pub listing-in-page : (s : List ℕ) {room : ℕ} → listingRoom ≤ room → listRefusalIn (readingOf s) ≡ accepted → length (listingOf s) ≤ room
+unfolding listRefusalIn
+listing-in-page s enough none =
+    either-way (eqb (readingOf s .refusal) accepted)
+    (λ good. omega (arith, listing-fits s (eqb-true _ _ good) (rw good at none)))
+    (λ bad. absurd (eqb-false _ _ bad (rw bad at none)))
 
 -- ---- reading and allotting, as the code has them
-
--- A register that reading does not refuse, and what it says.
-pub record GoodReading (s : List ℕ) (r : Reading) : Type 0 where
-  pub reading : r ≡ readingOf s
-  pub good : r .refusal ≡ accepted
-
-pub good-sound : {s : List ℕ} {r : Reading} → GoodReading s r → ReadingSound r
-good-sound {s} read = rw (read .reading) (reading-sound s (rw (read .reading) at (read .good)))
 
 module _ {s : List ℕ} {r : Reading} (read : GoodReading s r) {before after : List ℕ} {a : Allotted} (each : length before ≡ r .states)
     (allotted : AllotmentIs (r .method) (r .house) (populationsIn r) before after a) where
@@ -157,16 +114,16 @@ module _ {s : List ℕ} {r : Reading} (read : GoodReading s r) {before after : L
   unfolding allotRefusalIn allottedOf
   refusal-told = ap (λ (x : Allotted). x .refusal) (allotted .outcome) ∙ rw each
 
+  told-good : readingOf s .refusal ≡ accepted
+  told-good = rw (read .reading) at (read .good)
+
   -- Allotting refuses.
   pub told-refused : (buffer : List ℕ) → (a .refusal ≡ accepted → ⊥) → ListingIs s buffer (refused (a .refusal) 0) buffer
   told-refused buffer bad =
-      rw (refusal-told, read .reading)
-      (allotting-refused s buffer (rw (read .reading) at (read .good)) (λ none. bad (refusal-told ∙ rw (read .reading) none)))
+      writing-refused (listingOf s) buffer (allotting-decides s told-good ∙ sym (refusal-told ∙ ap allotRefusalIn (read .reading)))
+      (reading-lined s told-good) bad
 
   module _ (none : a .refusal ≡ accepted) where
-    told-good : readingOf s .refusal ≡ accepted
-    told-good = rw (read .reading) at (read .good)
-
     told-accepted : allotRefusalIn (readingOf s) ≡ accepted
     told-accepted = rw (read .reading) at (sym refusal-told ∙ none)
 
@@ -179,8 +136,8 @@ module _ {s : List ℕ} {r : Reading} (read : GoodReading s r) {before after : L
     told-listable at-rows = rw (told-seats, at-rows, read .reading) (register-listable s told-good told-accepted)
 
     -- .. and handed over.
-    pub told-listed : {rows : List ℕ} → rows ≡ rowsOf s → {buffer : List ℕ} {x : Listed} {later : List ℕ}
-        → HandedOver (listingIn r (nameInRow rows) after) buffer x later → ListingIs s buffer x later
+    pub told-listed : {rows : List ℕ} → rows ≡ rowsOf s → {buffer : List ℕ} {x : Written} {later : List ℕ}
+        → WritingIs accepted 0 (listingIn r (nameInRow rows) after) buffer x later → ListingIs s buffer x later
     told-listed at-rows over =
-        handed-over told-good told-accepted
-        (rw (listing-by-rows s told-good) (rw (told-seats, at-rows, read .reading) at over))
+        rw (allotting-decides s told-good, told-accepted, reading-lined s told-good, listing-by-rows s told-good)
+        (rw (told-seats, at-rows, read .reading) at over)

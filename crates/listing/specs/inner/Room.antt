@@ -10,14 +10,15 @@ use lib.Seq.{length-take-le}
 use Rattle.apportionment.specs.Limits.{houseLimit, sumLimit, stateLimit}
 use Rattle.apportionment.specs.Lists.{sum}
 use Rattle.apportionment.specs.Quantities.{markFor}
-use Rattle.apportionment.specs.declared.Method.{Method}
+use Rattle.apportionment.specs.Text.{bytesOf}
 use Rattle.register.specs.inner.Rows.{nameLimit}
-use Rattle.text.specs.inner.Bounds.{decimal-of-sum, decimal-of-house, decimal-of-states, mark-length, method-length, lines-length}
-use Rattle.text.specs.inner.Bounds.{numbers-length, total-line-length}
+use Rattle.text.specs.inner.Bounds.{decimal-of-sum, decimal-of-house, mark-length, lines-length}
+use Rattle.text.specs.inner.Bounds.{numbers-length, head-line-length, total-line-length}
 use Rattle.text.specs.inner.Departures.{departure-length}
+use Rattle.register.specs.Register.{populationsIn}
 use Rattle.register.specs.declared.Reading.{Reading}
 use Rattle.departure.specs.inner.Answer.{InLimits, AllInLimits}
-use Rattle.listing.specs.Listing.{headLine, stateLine, stateLines, populationsIn, listingIn}
+use Rattle.listing.specs.Listing.{stateLine, stateLines, listingIn}
 
 -- The room that each kind of line takes: its fields at their longest, its commas and its line end.
 --   head: the word 9, the method 10, the house 5, the number of states 3;
@@ -38,11 +39,6 @@ listingRoom = headRoom + stateLimit * lineRoom + totalRoom
 
 -- ---- lines
 
-head-line-length : (m : Method) (H n : ℕ) → H ≤ houseLimit → n ≤ stateLimit → length (headLine m H n) ≤ headRoom
-unfolding headLine
-head-line-length m H n house states =
-    simp length-append (omega (arith, method-length m, numbers-length H n (decimal-of-house H house) (decimal-of-states n states)))
-
 state-line-length : (name : List ℕ) {p a P H : ℕ} → length name ≤ nameLimit → InLimits p a P H → length (stateLine name p a P H) ≤ lineRoom
 unfolding stateLine
 state-line-length name {p} {a} {P} {H} short fit =
@@ -61,7 +57,7 @@ state-lines-length : (name : ℕ → List ℕ) (ps seats : List ℕ) (P H k : �
 unfolding stateLines
 state-lines-length name ps seats P H k short each =
     lines-length (stateLines name ps seats P H) (λ (i : ℕ). stateLine (name i) (getD ps i 0) (getD seats i 0) P H) lineRoom k
-    refl (λ i. refl) (λ i below. state-line-length (name i) (short i below) (each i below))
+    refl (λ i below. refl) (λ i below. state-line-length (name i) (short i below) (each i below))
 
 -- ---- the listing
 
@@ -89,7 +85,7 @@ listing-has-room {r} {name} {seats} fit =
     rw (length-append, length-append)
     (omega (
       arith,
-      head-line-length (r .method) (r .house) (r .states) (fit .house-limited) (fit .few-states),
+      head-line-length (bytesOf "allotment") (r .method) (r .house) (r .states) (fit .house-limited) (fit .few-states),
       state-lines-length name (populationsIn r) seats (r .total) (r .house) (r .states) (fit .short-names) (fit .each-in-limits),
       total-line-length (r .total) (sum seats) (decimal-of-sum (r .total) (fit .total-limited))
           (decimal-of-house (sum seats) (omega (arith, fit .house-seated))),

@@ -7,11 +7,11 @@ use native.Mathlib.Numerals.{add-one}
 use native.Mathlib.Omega.{arith}
 use lib.ListN.{getD}
 use Rattle.apportionment.specs.Refusals.{accepted}
-use Rattle.register.specs.Register.{readingOf}
+use Rattle.register.specs.Register.{readingOf, populationsIn}
 use Rattle.register.specs.Names.{rowsOf, nameInRow, nameOf}
 use Rattle.register.specs.inner.Sound.{name-there}
 use Rattle.register.specs.declared.Reading.{Reading}
-use Rattle.listing.specs.Listing.{stateLine, stateLines, populationsIn, seatsIn, listingIn, listingOf}
+use Rattle.listing.specs.Listing.{stateLine, stateLines, seatsIn, listingIn, listingOf}
 
 -- One state more.
 pub state-lines-more : (name : ℕ → List ℕ) (ps seats : List ℕ) (P H k : ℕ)

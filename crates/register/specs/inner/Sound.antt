@@ -6,19 +6,22 @@ use mathlib.Core.List.{List, [], _∷_, _++_}
 use Prim.Native.Nat.{ℕ, zero, suc, _+_, _<_, _≤_}
 use native.Mathlib.Numerals.{add-one}
 use native.Mathlib.Omega.{arith}
-use borrow.Author.Tests.{eqb-true, eqb-false, ltb-true, ltb-false, eq-eqb, lt-ltb}
+use borrow.Author.Tests.{eqb-true, eqb-false, ltb-true, ltb-false, eq-eqb, lt-ltb, le-ltb}
 use lib.Dec.{ltb, eqb}
 use lib.ListN.{length, getD, set, take, length-set, getD-replicate, List·getD-eq-default}
 use lib.Seq.{getD-set-same, getD-set-other, take-suc-set}
 use Rattle.apportionment.specs.Limits.{stateLimit, houseLimit, sumLimit, registerLimit}
 use Rattle.apportionment.specs.Refusals.{accepted, lineIllFormed}
-use Rattle.apportionment.specs.Lists.{sum}
+use Rattle.apportionment.specs.Lists.{sum, sameList}
 use Rattle.apportionment.specs.inner.Tests.{either-way}
 use Rattle.fields.specs.Grammar.{restOf, isName}
 use Rattle.lines.specs.inner.Lines.{head-sound, state-sound}
+use Rattle.lines.specs.inner.Places.{unused-on}
 use Rattle.lines.specs.Lines.{headOf, nameAt, numberAt, stateRefusal, closingRefusal}
 use Rattle.register.specs.Register.{noPopulations, refused, accepts, endOf, closingOf, statesFrom, statesOf, linesOf, readingOf}
 use Rattle.register.specs.inner.Register.{states-passed}
+use Rattle.register.specs.inner.Names.{lines-next}
+use Rattle.register.specs.inner.Kept.{name-on-line}
 use Rattle.register.specs.Names.{linesAfter, nameRefusalIn, nameRefusalOf, nameOf}
 use Rattle.lines.specs.declared.head.Head.{Head}
 use Rattle.register.specs.declared.Reading.{Reading}
@@ -50,7 +53,7 @@ so-far-none = record {
   limited = omega arith;
 }
 
-sum-last : (xs : List ℕ) (p : ℕ) → sum (xs ++ (p ∷ [])) ≡ sum xs + p
+pub sum-last : (xs : List ℕ) (p : ℕ) → sum (xs ++ (p ∷ [])) ≡ sum xs + p
 unfolding sum
 sum-last [] p = omega arith
 sum-last (x ∷ xs) p = omega (arith, sum-last xs p)
@@ -82,6 +85,7 @@ so-far-more k total p populations so inside some fits = record {
 record Accepted (head : Head) (r : Reading) : Type 0 where
   pub counted : r .states ≡ head .states
   pub housed : r .house ≡ head .house
+  pub lined : r .line ≡ 0
   pub peopled : SoFar (r .states) (r .total) (r .populations)
 
 closing-accepted : (head : Head) (total : ℕ) (populations s : List ℕ) → SoFar (head .states) total populations
@@ -95,7 +99,7 @@ closing-accepted head total populations s so =
         (refused (closingRefusal total s) (head .states + 2))) .refusal ≡ accepted
         → Accepted head (cond t (cond u (accepts head total populations) (refused lineIllFormed (head .states + 3)))
         (refused (closingRefusal total s) (head .states + 2)))
-    by-tests true true closing good = record { counted = refl; housed = refl; peopled = so }
+    by-tests true true closing good = record { counted = refl; housed = refl; lined = refl; peopled = so }
     by-tests true false closing good = absurd (omega arith)
     by-tests false u closing good = absurd (eqb-false (closingRefusal total s) accepted closing good)
 
@@ -158,6 +162,10 @@ module _ (s : List ℕ) (good : readingOf s .refusal ≡ accepted) where
   pub reading-counted : readingOf s .states ≡ headOf s .states
   reading-counted = reading-accepted .counted
 
+  -- No line is at fault.
+  pub reading-lined : readingOf s .line ≡ 0
+  reading-lined = reading-accepted .lined
+
 -- What a caller may take from a reading.
 pub record ReadingSound (r : Reading) : Type 0 where
   pub states : (1 ≤ r .states) × (r .states ≤ stateLimit)
@@ -173,6 +181,14 @@ reading-sound s good =
       house = rw (r .housed) (head .house);
       populations = r .peopled;
     }
+
+-- A register that reading does not refuse, and what it says.
+pub record GoodReading (s : List ℕ) (r : Reading) : Type 0 where
+  pub reading : r ≡ readingOf s
+  pub good : r .refusal ≡ accepted
+
+pub good-sound : {s : List ℕ} {r : Reading} → GoodReading s r → ReadingSound r
+good-sound {s} read = rw (read .reading) (reading-sound s (rw (read .reading) at (read .good)))
 
 -- ---- the names of the states
 
@@ -198,3 +214,28 @@ pub name-there : (s : List ℕ) (i : ℕ) → readingOf s .refusal ≡ accepted 
     → nameOf s i ≡ nameAt (linesAfter i (restOf s))
 unfolding nameOf nameRefusalOf nameRefusalIn
 name-there s i good below = rw (eq-eqb (readingOf s .refusal) accepted good, lt-ltb i (readingOf s .states) below)
+
+pub name-none : (s : List ℕ) (i : ℕ) → readingOf s .refusal ≡ accepted → readingOf s .states ≤ i → nameOf s i ≡ []
+unfolding nameOf nameRefusalOf nameRefusalIn
+name-none s i good past = rw (eq-eqb (readingOf s .refusal) accepted good, le-ltb i (readingOf s .states) past)
+
+-- No name stands on a line before its own.
+states-apart : (head : Head) (first : List ℕ) (left k total : ℕ) (populations s : List ℕ) → s ≡ linesAfter k first
+    → statesFrom head first left k total populations s .refusal ≡ accepted
+    → (i j : ℕ) → i < k + j → j < left → sameList (nameAt (linesAfter i first)) (nameAt (linesAfter j s)) ≡ false
+unfolding linesAfter
+states-apart head first zero k total populations s here good i j earlier below = absurd (omega arith)
+states-apart head first (suc left) k total populations s here good i zero earlier below =
+    let line = state-sound first k total s (line-accepted head first left k total populations s good) in
+    rw (name-on-line i first) at (unused-on k first (nameAt s) (line .unused) i (omega arith))
+states-apart head first (suc left) k total populations s here good i (suc j) earlier below =
+    states-apart head first left (k + 1) (total + numberAt s) (set populations k (numberAt s)) (restOf s)
+    (rw (here, add-one, lines-next k first)) (rest-accepted head first left k total populations s good) i j (omega arith) (omega arith)
+
+-- The names of a register that is read differ.
+pub reading-apart : (s : List ℕ) → readingOf s .refusal ≡ accepted → (i j : ℕ) → i < j → j < readingOf s .states
+    → sameList (nameAt (linesAfter i (restOf s))) (nameAt (linesAfter j (restOf s))) ≡ false
+unfolding linesAfter
+reading-apart s good i j earlier below =
+    states-apart (headOf s) (restOf s) (headOf s .states) 0 0 noPopulations (restOf s) refl (rw (reading-is s good) at good) i j
+    (omega arith) (rw (reading-accepted s good .counted) at below)

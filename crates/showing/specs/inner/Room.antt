@@ -15,7 +15,8 @@ use Rattle.apportionment.specs.inner.Tests.{cond-both}
 use Rattle.departure.specs.inner.Answer.{InLimits}
 use Rattle.register.specs.Names.{nameInRow}
 use Rattle.register.specs.inner.Rows.{nameLimit}
-use Rattle.text.specs.inner.Bounds.{decimal-length, decimal-of-sum, decimal-of-house, decimal-of-states, numbers-length}
+use Rattle.apportionment.specs.inner.Decimal.{decimal-length}
+use Rattle.text.specs.inner.Bounds.{decimal-of-sum, decimal-of-house, decimal-of-states, numbers-length}
 use Rattle.text.specs.inner.Bounds.{total-line-length, lines-length}
 use Rattle.text.specs.inner.Departures.{departure-length}
 use Rattle.placing.specs.Placing.{peopleOf}
@@ -71,7 +72,7 @@ module _ {rows : List ℕ} {p : Placing} {P : ℕ} (fit : Showable rows p P) whe
         fit .few-states,
         lines-length (stateLines word rows (peopleOf p) (seatsIn p) P (p .house))
             (λ (i : ℕ). stateLine word (nameInRow rows i) (getD (peopleOf p) i 0) (getD (seatsIn p) i 0) P (p .house))
-            stateRoom (p .states) refl (λ i. refl)
+            stateRoom (p .states) refl (λ i below. refl)
             (λ i below.
             state-line-length word (nameInRow rows i) brief (fit .short-names i below) (fit .in-limits .each i (rw (fit .counted) below))),
         total-line-length P (p .total) (decimal-of-sum P (fit .sum-limited)) (decimal-of-total (p .total) (fit .total-limited)),
@@ -142,7 +143,7 @@ module _ {rows : List ℕ} {before after : Placing} {P : ℕ} (step : ShowableSt
         fit .few-states,
         lines-length (weighedLines (after .steps) adds rows (peopleOf before) (seatsIn before) P (before .house))
             (weighedAt (after .steps) adds rows (peopleOf before) (seatsIn before) P (before .house))
-            weighedRoom (before .states) refl (λ i. refl)
+            weighedRoom (before .states) refl (λ i below. refl)
             (λ i below.
             let inside : i < length (peopleOf before) = rw (fit .counted) below in
             weighed-length (after .steps) (nameInRow rows i) (step .later .few-steps) (fit .short-names i below)

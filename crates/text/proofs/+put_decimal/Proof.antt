@@ -4,7 +4,7 @@ use Prim.Native.Nat.{ℕ, _<_}
 use native.Mathlib.Omega.{arith}
 use borrow.Fn.Kinds.{In}
 use borrow.Fn.PlainCycle.{Measures, is, falls, and}
-use Rattle.text.specs.inner.Decimal.{decimal-one, decimal-more}
+use Rattle.apportionment.specs.inner.Decimal.{decimal-one, decimal-more}
 use Rattle.text.specs.inner.Writing.{wrote-then, wrote-length}
 use Rattle.text.proofs.put_decimal.Reads as put-decimal
 use Rattle.text.proofs.put_decimal.Kinds as put-decimal-kinds

@@ -5,29 +5,19 @@ use mathlib.Core.List.{List, _++_}
 use Prim.Native.Nat.{ℕ, zero, suc, _+_, _*_, _^_, _<_, _≤_, _/_}
 use native.Mathlib.Nat.{suc-mul}
 use native.Mathlib.Omega.{arith}
-use borrow.Author.Tests.{leb-true, ltb-true, ltb-false}
-use lib.Dec.{leb, ltb}
+use borrow.Author.Tests.{leb-true}
+use lib.Dec.{leb}
 use lib.ListN.{length, length-append}
-use Rattle.apportionment.specs.inner.Tests.{either-way}
 use Rattle.apportionment.specs.Limits.{stateLimit, houseLimit, sumLimit}
 use Rattle.apportionment.specs.Text.{decimal}
+use Rattle.apportionment.specs.inner.Decimal.{decimal-length}
 use Rattle.apportionment.specs.Quantities.{shownSizeText, markText}
 use Rattle.apportionment.specs.declared.Mark.{Mark}
 use Rattle.apportionment.specs.declared.Mark.the-variants.{In, High, Over, None}
 use Rattle.apportionment.specs.declared.Method.{Method}
 use Rattle.apportionment.specs.Methods.{methodText}
 use Rattle.apportionment.specs.inner.Methods.{every-method}
-use Rattle.text.specs.Shared.{numbersText, totalLine, refusalLine}
-use Rattle.text.specs.inner.Decimal.{decimal-one, decimal-more}
-
--- A number below 10 ^ (k + 1) has at most k + 1 digits.
-pub decimal-length : (k n : ℕ) → n < 10 ^ suc k → length (decimal n) ≤ suc k
-decimal-length zero n bound = rw (decimal-one n (omega arith)) (omega arith)
-decimal-length (suc k) n bound =
-    either-way (ltb n 10)
-    (λ e. rw (decimal-one n (ltb-true n 10 e)) (omega arith))
-    (λ e.
-    rw (decimal-more n (ltb-false n 10 e), length-append) (omega (arith, decimal-length k (n / 10) (omega arith))))
+use Rattle.text.specs.Shared.{numbersText, headLine, totalLine, refusalLine}
 
 -- Every u64 has at most 20 digits.
 pub decimal-of-u64 : (n : ℕ) → n < 2 ^ 64 → length (decimal n) ≤ 20
@@ -66,6 +56,13 @@ pub numbers-length : {k l : ℕ} (x y : ℕ) → length (decimal x) ≤ k → le
 unfolding numbersText
 numbers-length x y few some = simp length-append (omega arith)
 
+-- The first line: the word, the method 10, the house 5, the number of states 3, three commas and the line end.
+pub head-line-length : (word : List ℕ) (m : Method) (H n : ℕ) → H ≤ houseLimit → n ≤ stateLimit
+    → length (headLine word m H n) ≤ length word + 22
+unfolding headLine
+head-line-length word m H n house states =
+    simp length-append (omega (arith, method-length m, numbers-length H n (decimal-of-house H house) (decimal-of-states n states)))
+
 -- The line of totals and a refusal's, each with its numbers' own bounds.
 pub total-line-length : {k l : ℕ} (P allotted : ℕ) → length (decimal P) ≤ k → length (decimal allotted) ≤ l
     → length (totalLine P allotted) ≤ k + l + 8
@@ -78,9 +75,14 @@ refusal-line-length n l few small =
     simp length-append (omega (arith, numbers-length n l (decimal-of-u64 n few) (decimal-of-u64 l small)))
 
 -- Lines one after the other, each within its room, are within as many rooms.
-pub lines-length : (lines line : ℕ → List ℕ) (room n : ℕ) → length (lines 0) ≡ 0 → ((k : ℕ) → lines (suc k) ≡ lines k ++ line k)
+pub lines-length : (lines line : ℕ → List ℕ) (room n : ℕ) → length (lines 0) ≡ 0
+    → ((k : ℕ) → k < n → lines (suc k) ≡ lines k ++ line k)
     → ((k : ℕ) → k < n → length (line k) ≤ room) → length (lines n) ≤ n * room
 lines-length lines line room zero empty more each = omega arith
 lines-length lines line room (suc n) empty more each =
-    rw (more n, length-append, suc-mul)
-    (omega (arith, lines-length lines line room n empty more (λ k below. each k (omega arith)), each n (omega arith)))
+    rw (more n (omega arith), length-append, suc-mul)
+    (omega (
+      arith,
+      lines-length lines line room n empty (λ k below. more k (omega arith)) (λ k below. each k (omega arith)),
+      each n (omega arith),
+    ))

@@ -20,7 +20,8 @@ use Rattle.apportionment.specs.inner.Quantities.{largest-above, largest-below}
 use Rattle.departure.specs.declared.Answer.{Answer}
 use Rattle.departure.specs.Answer.{departureRefusal, departureShown, departureMark, shownIn, markIn, AnswerIs}
 use Rattle.departure.specs.inner.Answer.{InLimits, accepted-exactly}
-use Rattle.text.specs.inner.Bounds.{decimal-length, shown-size-length}
+use Rattle.apportionment.specs.inner.Decimal.{decimal-length}
+use Rattle.text.specs.inner.Bounds.{shown-size-length}
 
 -- ---- what an answer is written as
 

@@ -1,24 +1,17 @@
 -- Laws of what Writing.antt defines, which proofs cite.
 -- Assumes nothing.
 use mathlib.Core.Path.{_≡_, refl, sym, ap, _∙_}
-use mathlib.Core.Bool.{cond}
 use mathlib.Core.List.{List, [], _∷_, _++_}
 use Prim.Native.Nat.{ℕ, suc, _+_, _-_, _<_, _≤_, min}
 use native.Mathlib.Nat.{add-zero, zero-add}
 use native.Mathlib.Numerals.{add-one}
 use native.Mathlib.Omega.{arith}
-use borrow.Author.Tests.{leb-true, leb-false, le-leb}
+use borrow.Author.Tests.{leb-true, leb-false}
 use lib.Dec.{leb}
 use lib.ListN.{length, take, drop, set, getD, length-append, take-append-drop}
 use lib.Seq.{sets, length-sets, sets-eq, set-out, take-at, take-suc, length-take-le}
 use Rattle.apportionment.specs.inner.Tests.{either-way}
 use Rattle.text.specs.Writing.{laid, placeAfter, Wrote}
-
--- ---- definitions
-
--- A finished text handed over: at the front of the buffer if it fits there, and otherwise not at all.
-unfoldable pub copiedOut : (text buffer : List ℕ) → List ℕ
-copiedOut text buffer = cond (leb (length text) (length buffer)) (text ++ drop (length text) buffer) buffer
 
 -- ---- writing on
 
@@ -145,11 +138,6 @@ wrote-front {a} {b} {s} {next} w fits =
       size = end;
       bytes = rw (end, whole .1, zero-add) (take-at s (drop (length s) a) (length s) refl);
     }
-
--- A text written from the front that fits is copied out.
-pub wrote-copied : {a b s : List ℕ} {next : ℕ} → Wrote a 0 s b next → length s ≤ length a → b ≡ copiedOut s a
-unfolding copiedOut
-wrote-copied {a} {b} {s} w fits = wrote-fits w (omega arith) .1 ∙ rw (zero-add, le-leb (length s) (length a) fits)
 
 -- A text that stands at the front of a buffer, with the rest as it was, was written there.
 pub front-wrote : (s a : List ℕ) → length s ≤ length a → Wrote a 0 s (s ++ drop (length s) a) (length s)

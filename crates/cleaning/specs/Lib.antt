@@ -1,0 +1,4 @@
+-- The clean form of a register, and what writing it gives, for any bytes and any lent buffer.
+pub mod Stored
+pub mod Clean
+pub mod inner
