@@ -103,6 +103,7 @@ fn copy_by(
     handover::hand_over(&page[..size], out)
 }
 
+// The same by the small page ..
 fn copy_few(reading: Reading, rows: &[u8], starts: &[u32], ends: &[u32], out: &mut [u8]) -> Written
     requires cleanable { ⌜ Cleanable reading (nameInRow (now rows)) × (reading .states ≤ fewStates) ⌝ }
     requires placed { ⌜ Placed (reading .states) (now rows) (now starts) (now ends) ⌝ }
@@ -112,6 +113,7 @@ fn copy_few(reading: Reading, rows: &[u8], starts: &[u32], ends: &[u32], out: &m
     copy_by(&mut page[..], reading, rows, starts, ends, out)
 }
 
+// .. and by the large one.
 fn copy_many(reading: Reading, rows: &[u8], starts: &[u32], ends: &[u32], out: &mut [u8]) -> Written
     requires cleanable { ⌜ Cleanable reading (nameInRow (now rows)) ⌝ }
     requires placed { ⌜ Placed (reading .states) (now rows) (now starts) (now ends) ⌝ }

@@ -12,6 +12,7 @@ pub struct Written {
     pub size: usize,
 }
 
+// A refusal: nothing was written.
 pub fn refused(number: u64, line: u64) -> Written
     ensures { λ r. ⌜ r ≡ refused number line ⌝ }
 {
