@@ -1,7 +1,7 @@
 /* How much stack each operation of the desk takes. Each is called in a thread whose stack was painted beforehand, over inputs at the limits
-   and refused ones; the deepest byte that lost its paint tells. What a call hands over by value, its placing and its result, is counted, and
-   what the thread takes by itself is not. Prints a line for each operation, and ends with 1 where the header names less than was measured,
-   or more than a quarter beyond it. */
+   and refused ones; the deepest byte that lost its paint tells. What a call hands back by value is counted, and what the thread takes by
+   itself is not. Prints a line for each operation, and ends with 1 where the header names less than was measured, or more than a quarter
+   beyond it. */
 #include "desk.h"
 
 #include <pthread.h>
@@ -23,9 +23,14 @@ static size_t lengths[METHODS];
 /* Room for a listing, and so for a clean copy, which is shorter. */
 static uint8_t out[DESK_LISTING_ROOM];
 
+/* Placings to be moved, opened outside the painted stack: what opening takes must not be counted as moving's. The first gives up seats, the
+   second takes some. */
+static desk_placing opened[2];
+
 /* Results, kept there too, and what was answered, added up: an operation that was not run shows. */
 static desk_reading reading;
 static desk_placed placed;
+static desk_placing placing;
 static uint64_t accepted;
 
 static void count(uint64_t refusal) { accepted += refusal == 0; }
@@ -84,17 +89,31 @@ static void call_open(void) {
     count(placed.refusal);
 }
 
-/* Both ways to the house, and a foreign placing. */
-static void call_step(void) {
-    for (int k = 0; k < 3; k++) {
-        placed = desk_step(placed.placing);
-        count(placed.refusal);
+static void open_placings(void) {
+    opened[0] = desk_open(giant, DESK_STATES_LIMIT, DESK_STATES_LIMIT).placing;
+    opened[1] = desk_open(equal, DESK_STATES_LIMIT, DESK_STATES_LIMIT + DESK_STATES_LIMIT / 4).placing;
+}
+
+/* By so many seats a call, until a call at the house moves none. */
+static void move_to_the_house(uint64_t by) {
+    desk_moved moved;
+    do {
+        moved = desk_move(&placing, by);
+        count(moved.refusal);
+    } while (moved.moved > 0);
+}
+
+/* Both ways to the house, in one call and by 1, and a foreign placing. */
+static void call_move(void) {
+    for (int k = 0; k < 2; k++) {
+        placing = opened[k];
+        move_to_the_house(UINT64_MAX);
+        placing = opened[k];
+        move_to_the_house(1);
+        placing.seats[0] += 1;
+        desk_move(&placing, 0);
+        desk_move(&placing, UINT64_MAX);
     }
-    placed = desk_open(equal, DESK_STATES_LIMIT, DESK_STATES_LIMIT + DESK_STATES_LIMIT / 4);
-    while (placed.refusal == 0)
-        placed = desk_step(placed.placing);
-    placed.placing.seats[0] += 1;
-    placed = desk_step(placed.placing);
 }
 
 static void call_departure(void) {
@@ -164,7 +183,8 @@ int main(void) {
     right = hold("desk_read", call_read, DESK_READ_STACK, nothing);
     right &= hold("desk_allot", call_allot, DESK_ALLOT_STACK, nothing);
     right &= hold("desk_open", call_open, DESK_OPEN_STACK, nothing);
-    right &= hold("desk_step", call_step, DESK_STEP_STACK, nothing);
+    open_placings();
+    right &= hold("desk_move", call_move, DESK_MOVE_STACK, nothing);
     right &= hold("desk_departure", call_departure, DESK_DEPARTURE_STACK, nothing);
     right &= hold("desk_listing", call_listing, DESK_LISTING_STACK, nothing);
     right &= hold("desk_clean", call_clean, DESK_CLEAN_STACK, nothing);

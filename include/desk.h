@@ -1,9 +1,10 @@
-/* The allotment desk's C interface (System V ABI): numbers and lent arrays only, nothing kept
-   between calls and nothing allocated. A refusal is document 01's number, 0 where none was
+/* The allotment desk's C interface (System V ABI): numbers, lent arrays and a lent placing, nothing
+   kept between calls and nothing allocated. A refusal is document 01's number, 0 where none was
    given, and a line is counted from 1, 0 where none applies. A pointer with a length of 0 is not
-   looked at; a lent array is written only as its function says, and not at all on a refusal. An
-   array that is written must not overlap any other array of the same call: the promises hold for
-   arrays that lie apart, and one array lent as populations and as seats gives wrong seats. */
+   looked at; what is lent is written only as its function says, and after a refusal it is as it was.
+   An array that is written must not overlap any other array of the same call: the promises hold for
+   arrays that lie apart, and one array lent as populations and as seats gives wrong seats. A placing
+   is lent alone, so that there is nothing for it to overlap. */
 #ifndef DESK_H
 #define DESK_H
 
@@ -31,13 +32,13 @@ extern "C" {
    proved to that number (crates/cleaning/specs/inner/Room.antt, cleanRoom). */
 #define DESK_CLEAN_ROOM (30 + DESK_STATES_LIMIT * 44 + 17)
 
-/* The stack that each operation takes at most, in bytes, what is handed over by value included: a
+/* The stack that each operation takes at most, in bytes, what is handed back by value included: a
    thread with 256 KiB is safe for any of them. Measured on x86-64 Linux by painting the stack, at the
    limits and on refusals; the gate measures it again (.ci/stack.c). Nothing else is allocated. */
 #define DESK_READ_STACK (46 * 1024)
 #define DESK_ALLOT_STACK (112 * 1024)
 #define DESK_OPEN_STACK (39 * 1024)
-#define DESK_STEP_STACK (64 * 1024)
+#define DESK_MOVE_STACK (30 * 1024)
 #define DESK_DEPARTURE_STACK 128
 #define DESK_LISTING_STACK (200 * 1024)
 #define DESK_CLEAN_STACK (64 * 1024)
@@ -89,13 +90,15 @@ typedef struct {
 desk_allotted desk_allot(uint64_t method, uint64_t house, const uint64_t *populations, size_t n,
                          uint64_t *seats, size_t room);
 
-/* The leximin work so far. The total is that of the seats; both lists hold 0 past the states. */
+/* The leximin work so far. The total is that of the seats, the steps are the seats moved since
+   opening, and both lists hold 0 past the states. */
 typedef struct {
     uint64_t states, house, total, steps;
     uint64_t populations[DESK_STATES_LIMIT], seats[DESK_STATES_LIMIT];
 } desk_placing;
 
-/* A placing handed back, and whether its call was refused. */
+/* What opening hands back: whether it was refused, and the placing, which is the caller's from then
+   on. */
 typedef struct {
     uint64_t refusal;
     desk_placing placing;
@@ -105,9 +108,20 @@ typedef struct {
    zeros. */
 desk_placed desk_open(const uint64_t *populations, size_t n, uint64_t house);
 
-/* Places or withdraws one seat: refusal 21 for a placing that opening and steps do not give, then
-   20 at the house, each with the placing as it was. */
-desk_placed desk_step(desk_placing placing);
+/* A placing moved on: by how many seats, 0 on a refusal. */
+typedef struct {
+    uint64_t refusal, moved;
+} desk_moved;
+
+/* Moves a placing on towards its house by as many seats as are asked for, any number up to UINT64_MAX:
+   a screen asks for 1 at a time, a batch run for all that are left or more. A move stops short at the
+   house and nowhere else, so that none are moved there. The placing is the caller's, before and after:
+   it is lent for the call, by a pointer that is not null, and written in place; nothing of it is kept,
+   and nothing else may use it meanwhile. Refusal 21 for a placing that opening and moves do not give,
+   also if 0 seats are asked for; it is then as it was, past its states too. Two moves, by j and then by
+   k, come to the same as one by j + k, if that is at most UINT64_MAX: in the placing, and in the seats
+   moved by both together. */
+desk_moved desk_move(desk_placing *placing, uint64_t seats);
 
 /* Departures are shown in thousandths of a per cent, of which so many make one whole. */
 #define DESK_SHOWN_SCALE 100000

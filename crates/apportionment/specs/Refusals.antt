@@ -46,10 +46,7 @@ seatListLength = 14
 abbrev pub houseBelowStates : ℕ
 houseBelowStates = 15
 
--- Stepping.
-abbrev pub houseReached : ℕ
-houseReached = 20
-
+-- Moving a placing.
 abbrev pub placingForeign : ℕ
 placingForeign = 21
 

@@ -29,9 +29,7 @@ pub const SEAT_LIST_LENGTH: u64 = 14;
 
 pub const HOUSE_BELOW_STATES: u64 = 15;
 
-// Stepping.
-pub const HOUSE_REACHED: u64 = 20;
-
+// Moving a placing.
 pub const PLACING_FOREIGN: u64 = 21;
 
 // Departure, listing, name.

@@ -8,12 +8,8 @@ use Rattle.apportionment.specs.declared.Mark.{Mark}
 use Rattle.apportionment.specs.declared.Mark.the-variants.{None}
 use Rattle.departure.specs.Answer.{departureRefusal, departureShown, departureMark}
 use Rattle.text.specs.declared.handover.Written.{Written}
-use Rattle.placing.specs.declared.Placing.{Placing}
-use Rattle.placing.specs.declared.Placed.{Placed}
 use Rattle.register.specs.declared.Reading.{Reading}
 use Rattle.desk.specs.declared.DeskReading.{DeskReading}
-use Rattle.desk.specs.declared.DeskPlacing.{DeskPlacing}
-use Rattle.desk.specs.declared.DeskPlaced.{DeskPlaced}
 use Rattle.desk.specs.declared.DeskShown.{DeskShown}
 use Rattle.desk.specs.declared.DeskWritten.{DeskWritten}
 use Rattle.desk.specs.Numbers.{markNumber}
@@ -29,32 +25,6 @@ exportedReading r =
       total = r .total;
       populations = r .populations;
     }
-
-abbrev pub exportedPlacing : Placing → DeskPlacing
-exportedPlacing p =
-    record {
-      states = p .states;
-      house = p .house;
-      total = p .total;
-      steps = p .steps;
-      populations = p .populations;
-      seats = p .seats;
-    }
-
--- The placing that a caller hands in.
-abbrev pub innerPlacing : DeskPlacing → Placing
-innerPlacing p =
-    record {
-      states = p .states;
-      populations = p .populations;
-      house = p .house;
-      seats = p .seats;
-      total = p .total;
-      steps = p .steps;
-    }
-
-unfoldable pub exportedPlaced : Placed → DeskPlaced
-exportedPlaced p = record { refusal = p .refusal; placing = exportedPlacing (p .placing) }
 
 -- A departure from its refusal number, its shown departure and its mark; where there is none, 0 stands for it, and `none` for the mark.
 unfoldable pub exportedShown : (refusal : ℕ) → Option ℤ → Option Mark → DeskShown

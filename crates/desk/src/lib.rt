@@ -1,5 +1,5 @@
-// The C interface, as include/desk.h words it: each operation over numbers and lent lists, with its record handed back by value. An enum is
-// a number here, and the part of a register that holds a name is its start and length.
+// The C interface, as include/desk.h words it: each operation over numbers and what is lent, with its record handed back by value. An enum
+// is a number here, and the part of a register that holds a name is its start and length; placings are as crate `placing` lays them out.
 use allot::allot;
 use apportionment::Mark;
 use apportionment::STATE_LIMIT;
@@ -9,6 +9,7 @@ use cleaning::write_clean;
 use departure::Answer;
 use departure::departure_of;
 use listing::write_listing;
+use placing::Moved;
 use placing::Placed;
 use placing::Placing;
 use register::Reading;
@@ -22,11 +23,11 @@ ghost use lib.ListN.{length};
 ghost use Rattle.apportionment.specs.Refusals.{accepted};
 ghost use Rattle.cleaning.specs.Clean.{cleanOf, cleanedOf};
 ghost use Rattle.listing.specs.Listing.{listingOf, listedOf};
-ghost use Rattle.placing.specs.Placing.{openedOf, steppedOf};
+ghost use Rattle.placing.specs.Placing.{openedOf, movedOf};
 ghost use Rattle.register.specs.Register.{readingOf};
 ghost use Rattle.text.specs.Handover.{bufferAfter};
 ghost use Rattle.desk.specs.Numbers.{markNumber};
-ghost use Rattle.desk.specs.Exported.{exportedReading, exportedPlacing, innerPlacing, exportedPlaced, exportedWritten};
+ghost use Rattle.desk.specs.Exported.{exportedReading, exportedWritten};
 ghost use Rattle.desk.specs.Exported.{exportedShown, exportedDeparture};
 ghost use Rattle.desk.specs.inner.Exported.{exportedAnswer};
 ghost use Rattle.desk.specs.Allotting.{allottedBy, seatsBy};
@@ -50,22 +51,6 @@ pub struct DeskReading {
 pub struct DeskAllotted {
     pub refusal: u64,
     pub steps: u64,
-}
-
-#[repr(C)]
-pub struct DeskPlacing {
-    pub states: u64,
-    pub house: u64,
-    pub total: u64,
-    pub steps: u64,
-    pub populations: [u64; STATE_LIMIT],
-    pub seats: [u64; STATE_LIMIT],
-}
-
-#[repr(C)]
-pub struct DeskPlaced {
-    pub refusal: u64,
-    pub placing: DeskPlacing,
 }
 
 #[repr(C)]
@@ -116,47 +101,6 @@ fn exported_reading(reading: Reading) -> DeskReading
         states: reading.states as u64,
         total: reading.total,
         populations,
-    }
-}
-
-fn exported_placing(placing: Placing) -> DeskPlacing
-    ensures { λ r. ⌜ r ≡ exportedPlacing placing ⌝ }
-{
-    let populations = placing.populations;
-    let seats = placing.seats;
-    DeskPlacing {
-        states: placing.states as u64,
-        house: placing.house,
-        total: placing.total,
-        steps: placing.steps,
-        populations,
-        seats,
-    }
-}
-
-fn inner_placing(placing: DeskPlacing) -> Placing
-    ensures { λ r. ⌜ r ≡ innerPlacing placing ⌝ }
-{
-    let populations = placing.populations;
-    let seats = placing.seats;
-    Placing {
-        states: placing.states as usize,
-        populations,
-        house: placing.house,
-        seats,
-        total: placing.total,
-        steps: placing.steps,
-    }
-}
-
-fn exported_placed(placed: Placed) -> DeskPlaced
-    ensures { λ r. ⌜ r ≡ exportedPlaced placed ⌝ }
-{
-    let inner = placed.placing;
-    let placing = exported_placing(inner);
-    DeskPlaced {
-        refusal: placed.refusal,
-        placing,
     }
 }
 
@@ -234,19 +178,19 @@ pub extern "C" fn desk_allot(
 
 // Opens a placing: refusals 10 to 13 and 15, and everything 0 where one is given.
 #[no_mangle]
-pub extern "C" fn desk_open(populations: &[u64], house: u64) -> DeskPlaced
-    ensures { λ r. ⌜ r ≡ exportedPlaced (openedOf (now (populations .entry)) house) ⌝ }
+pub extern "C" fn desk_open(populations: &[u64], house: u64) -> Placed
+    ensures { λ r. ⌜ r ≡ openedOf (now (populations .entry)) house ⌝ }
 {
-    exported_placed(Placing::open(populations, house))
+    Placing::open(populations, house)
 }
 
-// Moves one seat towards the house: 21 for a placing that opening and steps did not give, 20 at the house, each with the placing as it was.
+// Moves the lent placing so many seats towards the house, fewer only if it is reached: 21 for one that opening and moves did not give,
+// which is left as it was.
 #[no_mangle]
-pub extern "C" fn desk_step(placing: DeskPlacing) -> DeskPlaced
-    ensures { λ r. ⌜ r ≡ exportedPlaced (steppedOf (innerPlacing placing)) ⌝ }
+pub extern "C" fn desk_move(placing: &mut Placing, seats: u64) -> Moved
+    ensures { λ r. ⌜ record { answer = r; placing = now (placing .exit) } ≡ movedOf (now (placing .entry)) seats ⌝ }
 {
-    let inner = inner_placing(placing);
-    exported_placed(inner.step())
+    placing.advance(seats)
 }
 
 // The departure of a state: refusal 30 outside the limits. Refused or without seats, `shown` is 0 and the mark none.

@@ -15,7 +15,7 @@ ghost use Rattle.leximin.specs.inner.Scan.{Bounded, Seated};
 ghost use Rattle.leximin.specs.inner.Moves.{movedOnce, movedTimes, movedBy, Movable};
 
 // The first claim not met is met.
-pub fn place(populations: &[u64], seats: &mut [u64], total: u64, house: u64)
+fn place(populations: &[u64], seats: &mut [u64], total: u64, house: u64)
     requires { ⌜ Bounded (now populations) total house (now seats) ⌝ }
     ensures { λ _. ⌜ now (seats .exit) ≡ placed (sizeTest (now (populations .entry)) house) (length (now (populations .entry)))
         (now (seats .entry)) ⌝ }
@@ -25,7 +25,7 @@ pub fn place(populations: &[u64], seats: &mut [u64], total: u64, house: u64)
 }
 
 // The last claim met is given up.
-pub fn withdraw(populations: &[u64], seats: &mut [u64], total: u64, house: u64)
+fn withdraw(populations: &[u64], seats: &mut [u64], total: u64, house: u64)
     requires { ⌜ Seated (now populations) total house (now seats) ⌝ }
     ensures { λ _. ⌜ now (seats .exit) ≡ withdrawn oneEach (sizeTest (now (populations .entry)) house)
         (length (now (populations .entry))) (now (seats .entry)) ⌝ }

@@ -23,8 +23,7 @@ pub fn fill_leximin(populations: &[u64], total: u64, house: u64, seats: &mut [u6
     requires { ⌜ Fillable (now populations) total house (now seats) × (length (now populations) ≤ house) ⌝ }
     ensures { λ r. ⌜ Settled (now (populations .entry)) house (now (seats .exit)) r ⌝ }
 {
-    fill_start(populations, total, house, &mut seats[..]);
-    let start = problem::total_of(&seats[..]);
+    let start = fill_start(populations, total, house, &mut seats[..]);
     if start < house {
         move_times(
             true,

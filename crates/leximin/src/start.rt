@@ -5,6 +5,8 @@ ghost use mathlib.Core.Path.{_≡_};
 ghost use Rattle.claims.specs.inner.SizeClaims.{nearestRounded};
 ghost use Rattle.sizes.specs.inner.Sizes.{State};
 ghost use Rattle.apportionment.specs.inner.Problem.{Problem, Fillable};
+ghost use Rattle.apportionment.specs.Lists.{sameList};
+ghost use Rattle.leximin.specs.inner.Start.{Begun};
 ghost use Rattle.apportionment.specs.Leximin.{startSeats, startTotal};
 
 // The seats nearest to p H / P: its whole part or one more, at least 1, the fewer where two are equally near.
@@ -25,7 +27,7 @@ pub fn nearest_seats(population: u64, total: u64, house: u64) -> u64
 }
 
 // Fills the seat list with each state's nearest seats.
-pub fn fill_start(populations: &[u64], total: u64, house: u64, seats: &mut [u64])
+fn fill_nearest(populations: &[u64], total: u64, house: u64, seats: &mut [u64])
     requires { ⌜ Fillable (now populations) total house (now seats) ⌝ }
     ensures { λ _. ⌜ now (seats .exit) ≡ startSeats (now (populations .entry)) house ⌝ }
 {
@@ -36,7 +38,16 @@ pub fn fill_start(populations: &[u64], total: u64, house: u64, seats: &mut [u64]
     }
 }
 
-// The starting total L: every state's nearest seats added up.
+// Fills the seat list with the start, and adds it up: the starting total L.
+pub fn fill_start(populations: &[u64], total: u64, house: u64, seats: &mut [u64]) -> u64
+    requires { ⌜ Fillable (now populations) total house (now seats) ⌝ }
+    ensures { λ r. ⌜ Begun (now (populations .entry)) house (now (seats .exit)) r ⌝ }
+{
+    fill_nearest(populations, total, house, &mut seats[..]);
+    problem::total_of(&seats[..])
+}
+
+// The starting total alone: every state's nearest seats added up.
 pub fn start_total(populations: &[u64], total: u64, house: u64) -> u64
     requires { ⌜ Problem (now populations) total house ⌝ }
     ensures { λ r. ⌜ r ≡ startTotal (now (populations .entry)) house ⌝ }
@@ -48,4 +59,19 @@ pub fn start_total(populations: &[u64], total: u64, house: u64) -> u64
         i += 1;
     }
     sum
+}
+
+// The seats are each state's nearest.
+pub fn is_start(populations: &[u64], total: u64, house: u64, seats: &[u64]) -> bool
+    requires { ⌜ Fillable (now populations) total house (now seats) ⌝ }
+    ensures { λ r. ⌜ r ≡ sameList (now (seats .entry)) (startSeats (now (populations .entry)) house) ⌝ }
+{
+    let mut i = 0;
+    while i < populations.len() {
+        if seats[i] != nearest_seats(populations[i], total, house) {
+            return false;
+        }
+        i += 1;
+    }
+    true
 }

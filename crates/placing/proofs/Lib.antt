@@ -1,2 +1,2 @@
--- Beside the proofs of the functions, the claim about whole lists of calls.
+-- Beside the proofs of the functions, the claim about whole lists of moves.
 pub mod Claim

@@ -1,3 +1,3 @@
--- What opening and stepping hand back.
+-- What opening hands back, and what a move answers and leaves.
 pub mod Placing
 pub mod inner

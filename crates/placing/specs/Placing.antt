@@ -1,18 +1,20 @@
--- Document 01, "Leximin" and "Operations": the placing as opening gives it and after each step, which placings are genuine, and what
--- opening and stepping hand back.
+-- Document 01, "Leximin" and "Operations", with W-207: the placing as opening gives it and after each step, which placings are genuine, and
+-- what opening hands back and a move answers and leaves.
 -- Assumes nothing.
 use mathlib.Core.Bool.{Bool, cond, _&&_}
 use mathlib.Core.List.{List, [], _++_}
-use Prim.Native.Nat.{ℕ, _+_, _-_}
+use Prim.Native.Nat.{ℕ, _+_, _-_, min}
 use lib.Dec.{leb, eqb}
 use lib.ListN.{length, take, replicate}
 use Rattle.apportionment.specs.Limits.{stateLimit}
-use Rattle.apportionment.specs.Refusals.{accepted, houseReached, placingForeign}
+use Rattle.apportionment.specs.Refusals.{accepted, placingForeign}
 use Rattle.apportionment.specs.Lists.{sameList}
+use Rattle.apportionment.specs.Quantities.{distance}
 use Rattle.apportionment.specs.Leximin.{leximinFor, startSeats, startTotal, gap, totalAfter}
 use Rattle.apportionment.specs.Allotment.{openRefusal}
 use Rattle.placing.specs.declared.Placing.{Placing}
 use Rattle.placing.specs.declared.Placed.{Placed}
+use Rattle.placing.specs.declared.MovedOn.{MovedOn}
 
 -- A list as a placing holds it: 0 past its places.
 unfoldable pub padded : List ℕ → List ℕ
@@ -54,7 +56,7 @@ openedOf ps H =
     (record { refusal = accepted; placing = started ps H })
     (record { refusal = openRefusal ps H; placing = emptyPlacing })
 
--- ---- stepping
+-- ---- moving
 
 -- A placing's own populations.
 unfoldable pub peopleOf : Placing → List ℕ
@@ -77,14 +79,17 @@ genuine p =
     && leb (p .steps) (gap (peopleOf p) (p .house))
     && samePlacing p (placingAt (peopleOf p) (p .house) (p .steps))
 
--- A placing handed back with a number: a refusal's, or 0.
-unfoldable pub refusedWith : ℕ → Placing → Placed
-refusedWith number p = record { refusal = number; placing = p }
+-- How many seats a move by k makes: fewer only if the house is reached.
+unfoldable pub movable : Placing → (k : ℕ) → ℕ
+movable p k = min k (distance (p .total) (p .house))
 
--- What stepping hands back: 21 unless the placing is genuine, then 20 at the house, and otherwise the placing one step later.
-unfoldable pub steppedOf : Placing → Placed
-steppedOf p =
+-- What a move by k answers and leaves: 21 unless the placing is genuine, and then nothing is moved; otherwise how many seats were, and the
+-- placing so many steps later.
+unfoldable pub movedOf : Placing → (k : ℕ) → MovedOn
+movedOf p k =
     cond (genuine p)
-    (cond (eqb (p .total) (p .house)) (refusedWith houseReached p)
-    (record { refusal = accepted; placing = placingAt (peopleOf p) (p .house) (p .steps + 1) }))
-    (refusedWith placingForeign p)
+    (record {
+      answer = record { refusal = accepted; moved = movable p k };
+      placing = placingAt (peopleOf p) (p .house) (p .steps + movable p k);
+    })
+    (record { answer = record { refusal = placingForeign; moved = 0 }; placing = p })

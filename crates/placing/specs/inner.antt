@@ -2,5 +2,5 @@
 pub mod Lists
 pub mod Genuine
 pub mod Telling
-pub mod Stepping
+pub mod Moving
 pub mod Walk

@@ -18,7 +18,6 @@ use departure::departure_of;
 use fields::Named;
 use fields::words::method_named;
 use libc::STDOUT_FILENO;
-use placing::Placed;
 use placing::Placing;
 ghost use Rattle.io.specs.Counts.{Counts};
 
@@ -36,7 +35,7 @@ pub fn answer(operation: &[u8], arguments: &[u8], expected: &[u8]) -> usize {
     match first_letter(operation) {
         b'a' => allots(arguments, expected),
         b'o' => opens(arguments, expected),
-        b's' => steps(arguments, expected),
+        b'm' => moves(arguments, expected),
         b'd' => departs(arguments, expected),
         b'r' => reads(arguments, expected),
         b'l' => lists(arguments, expected),
@@ -96,33 +95,37 @@ fn opens(arguments: &[u8], expected: &[u8]) -> usize {
     let mut populations = [0u64; LIST_ROOM];
     let n = read_list(field(arguments, 0), &mut populations);
     let house = number(after_bars(arguments, 1));
-    tell_placed(expected, Placing::open(&populations[..n], house))
+    let opened = Placing::open(&populations[..n], house);
+    let refusal = tell_number(expected, 0, opened.refusal);
+    tell_placing(expected, refusal, opened.placing)
 }
 
-// Argument: placing. Answer: refusal and placing.
-fn steps(arguments: &[u8], expected: &[u8]) -> usize {
+// Arguments: a number of seats and a placing. Answer: refusal, seats moved, and the placing as it is then.
+fn moves(arguments: &[u8], expected: &[u8]) -> usize {
     let mut populations = [0u64; STATE_LIMIT];
-    read_list(field(arguments, 1), &mut populations);
+    read_list(field(arguments, 2), &mut populations);
     let mut seats = [0u64; STATE_LIMIT];
-    read_list(field(arguments, 3), &mut seats);
+    read_list(field(arguments, 4), &mut seats);
     let placing = Placing {
-        states: number(field(arguments, 0)) as usize,
+        states: number(field(arguments, 1)) as usize,
+        house: number(field(arguments, 3)),
+        total: number(field(arguments, 5)),
+        steps: number(after_bars(arguments, 6)),
         populations,
-        house: number(field(arguments, 2)),
         seats,
-        total: number(field(arguments, 4)),
-        steps: number(after_bars(arguments, 5)),
     };
-    tell_placed(expected, placing.step())
+    let on = placing.moved_on(number(field(arguments, 0)));
+    let answer = on.answer;
+    let refusal = tell_number(expected, 0, answer.refusal);
+    let moved = tell_field(expected, refusal, answer.moved);
+    tell_placing(expected, moved, on.placing)
 }
 
 // A placing is told as its states, populations, house, seats, total and steps, the lists without the zeros at their ends.
-fn tell_placed(expected: &[u8], placed: Placed) -> usize {
-    let placing = placed.placing;
+fn tell_placing(expected: &[u8], at: usize, placing: Placing) -> usize {
     let people = placing.populations;
     let allotted = placing.seats;
-    let refusal = tell_number(expected, 0, placed.refusal);
-    let states = tell_field(expected, refusal, placing.states as u64);
+    let states = tell_field(expected, at, placing.states as u64);
     let populations = tell_used(expected, states, &people);
     let house = tell_field(expected, populations, placing.house);
     let seats = tell_used(expected, house, &allotted);

@@ -52,8 +52,8 @@ fn print_end(rows: &[u8], placing: Placing, sum: u64) -> bool
     streams::print(&page[..size])
 }
 
-// Steps until a step is refused, as it is at the house, and prints each. From the start the house is fewer steps away than there are
-// states, so that the steps never run out.
+// Moves by one seat until none is moved, as at the house, and prints each step. From the start the house is fewer steps away than there are
+// states, so that the turns never run out.
 fn print_steps(rows: &[u8], start: Placing, sum: u64) -> Walked
     requires { ⌜ Begun (now rows) start sum ⌝ }
     ensures { λ r. ⌜ (r .written ≡ true → r .placing ≡ onTheWay start (wayOf start)) ⌝ }
@@ -61,14 +61,15 @@ fn print_steps(rows: &[u8], start: Placing, sum: u64) -> Walked
     let mut placing = start;
     let mut made = 0;
     while made < STATE_LIMIT {
-        let stepped = placing.step();
-        if stepped.refusal != ACCEPTED {
+        let on = placing.moved_on(1);
+        let answer = on.answer;
+        if answer.moved == 0 {
             return Walked {
                 written: true,
                 placing,
             };
         }
-        let next = stepped.placing;
+        let next = on.placing;
         if print_move(rows, placing, next, sum) {
             placing = next;
             made += 1;

@@ -68,6 +68,11 @@ pub const RANDOM_SIZES: Family = Family {
         (0..n).map(|_| (1 + random() % 9) * 1_000).collect()
     },
 };
+/// At a house of as many seats as there are states, the longest way that we know from leximin's start.
+pub const ONES_AND_GIANT: Family = Family {
+    name: "ones and a giant",
+    make: |n| with_giant(n, 1, SUM_LIMIT - (n as u64 - 1)),
+};
 pub const GIANT: Family = Family {
     name: "thousands and a giant",
     make: |n| with_giant(n, 1_000, SUM_LIMIT - 1_000 * (n as u64 - 1)),
@@ -117,10 +122,7 @@ pub const FAMILIES: [Family; 12] = [
             places.map(|i| i.div_ceil(2).pow(2)).collect()
         },
     },
-    Family {
-        name: "ones and a giant",
-        make: |n| with_giant(n, 1, SUM_LIMIT - (n as u64 - 1)),
-    },
+    ONES_AND_GIANT,
     GIANT,
     Family {
         name: "thousands and one as large as all",

@@ -3,7 +3,8 @@
 //! word `programs` it times whole programs at the limits instead, with the word `worst` inputs full
 //! of ties beside the fastest plain programs, with the word `quota` the quota method at the limits,
 //! which `worst` prints too, with the word `sweep` every house under leximin for several kinds of
-//! populations, and with the word `clean` clean copies of registers. Build it with `--release`.
+//! populations, with the word `moves` a placing moved to its house beside allotting that house, and
+//! with the word `clean` clean copies of registers. Build it with `--release`.
 
 mod clean;
 mod events;
@@ -11,6 +12,7 @@ mod families;
 mod growth;
 mod heap;
 mod leximin;
+mod moves;
 mod plain;
 mod programs;
 mod quota;
@@ -43,7 +45,7 @@ const REPEATS: u32 = 40;
 /// A repeat lasts at least so long: short, so that some escape every interruption.
 const SPAN: Duration = Duration::from_micros(200);
 /// No more repeats are begun after so long, once there are a few: the reference takes most of a
-/// second to step through many states.
+/// second to go through many states seat by seat.
 const ENOUGH: Duration = Duration::from_secs(1);
 const FEW: u32 = 3;
 
@@ -67,8 +69,9 @@ fn main() {
         Some("worst") => worst::time_it(),
         Some("quota") => quota::print_it(),
         Some("sweep") => sweep::print_it(),
+        Some("moves") => moves::print_it(),
         Some("clean") => clean::print_it(),
-        Some(_) => eprintln!("usage: bench [programs | worst | quota | sweep | clean]"),
+        Some(_) => eprintln!("usage: bench [programs | worst | quota | sweep | moves | clean]"),
     }
 }
 
@@ -88,8 +91,13 @@ fn operations() {
         let times = shapes.iter().map(|(.., inputs)| allotting(method, inputs));
         rows.push((format!("allot, {name}"), times.collect()));
     }
-    let times = shapes.iter().map(|(.., inputs)| stepping(inputs));
-    rows.push(("open and step to the house".into(), times.collect()));
+    for (name, seats) in [("seat by seat", 1), ("in one call", u64::MAX)] {
+        let times = shapes.iter().map(|(.., inputs)| moving(inputs, seats));
+        rows.push((
+            format!("open and move to the house, {name}"),
+            times.collect(),
+        ));
+    }
     let ordinary: Register = |input| &input.bytes;
     let longest: Register = |input| &input.longest;
     for (name, register) in [("read", ordinary), ("read, longest lines", longest)] {
@@ -201,28 +209,19 @@ fn allotting(method: usize, inputs: &[Input]) -> Option<Times> {
     ))
 }
 
-/// Opening and every step to the house, the refused one at the end included.
-fn stepping(inputs: &[Input]) -> Option<Times> {
+/// Opening, and moving by so many seats a call until a call moves fewer: by 1 the last call finds the
+/// house reached, and by the largest number there is one call. None where opening refuses.
+fn moving(inputs: &[Input], seats: u64) -> Option<Times> {
     let library = |input: &Input| {
         let mut placing = desk::Placing::open(black_box(&input.populations), input.house).ok()?;
-        loop {
-            let (next, outcome) = placing.step();
-            placing = next;
-            if outcome.is_err() {
-                return Some(placing.seats().to_vec());
-            }
-        }
+        while placing.advance(seats).ok()? == seats {}
+        Some(placing.seats().to_vec())
     };
     let plain = |input: &Input| {
         let populations = black_box(&input.populations);
         let mut placing = reference::open(populations, input.house).ok()?;
-        loop {
-            let (next, outcome) = placing.step();
-            placing = next;
-            if outcome.is_err() {
-                return Some(placing.seats[..populations.len()].to_vec());
-            }
-        }
+        while placing.advance(seats).ok()? == seats {}
+        Some(placing.seats[..populations.len()].to_vec())
     };
     for input in inputs {
         assert_eq!(library(input)?, plain(input)?);

@@ -19,10 +19,13 @@ pub enum Case {
         room: usize,
         populations: Vec<u64>,
     },
-    /// Opening, then stepping until it is refused and twice more.
+    /// Opening, then the way to the house: by one seat at a time, in halts, and in one call.
     Walk { house: u64, populations: Vec<u64> },
-    /// One step of a placing, genuine or not.
-    Step { placing: Box<Placing> },
+    /// A placing, genuine or not, moved on by one number of seats after another.
+    Moves {
+        placing: Box<Placing>,
+        asked: Vec<u64>,
+    },
     /// The departure of one state.
     Departure {
         population: u64,
@@ -52,7 +55,7 @@ impl Case {
         "register",
         "allot",
         "walk",
-        "step",
+        "moves",
         "departure",
         "growth",
         "polls",
@@ -65,7 +68,7 @@ impl Case {
             Case::Register { .. } => 0,
             Case::Allot { .. } => 1,
             Case::Walk { .. } => 2,
-            Case::Step { .. } => 3,
+            Case::Moves { .. } => 3,
             Case::Departure { .. } => 4,
             Case::Growth { .. } => 5,
             Case::Polls { .. } => 6,
@@ -92,16 +95,19 @@ impl Case {
                 house: house.parse().ok()?,
                 populations: parse_list(populations)?,
             }),
-            ["step", states, house, total, steps, populations, seats] => Some(Case::Step {
-                placing: Box::new(Placing {
-                    states: states.parse().ok()?,
-                    house: house.parse().ok()?,
-                    total: total.parse().ok()?,
-                    steps: steps.parse().ok()?,
-                    populations: filled(parse_list(populations)?)?,
-                    seats: filled(parse_list(seats)?)?,
-                }),
-            }),
+            ["moves", states, house, total, steps, populations, seats, asked] => {
+                Some(Case::Moves {
+                    placing: Box::new(Placing {
+                        states: states.parse().ok()?,
+                        house: house.parse().ok()?,
+                        total: total.parse().ok()?,
+                        steps: steps.parse().ok()?,
+                        populations: filled(parse_list(populations)?)?,
+                        seats: filled(parse_list(seats)?)?,
+                    }),
+                    asked: parse_list(asked)?,
+                })
+            }
             ["departure", population, seats, total, house] => Some(Case::Departure {
                 population: population.parse().ok()?,
                 seats: seats.parse().ok()?,
@@ -142,15 +148,16 @@ impl fmt::Display for Case {
                 populations,
             } => write!(f, "{method} {house} {room} {}", show_list(populations)),
             Case::Walk { house, populations } => write!(f, "{house} {}", show_list(populations)),
-            Case::Step { placing } => write!(
+            Case::Moves { placing, asked } => write!(
                 f,
-                "{} {} {} {} {} {}",
+                "{} {} {} {} {} {} {}",
                 placing.states,
                 placing.house,
                 placing.total,
                 placing.steps,
                 show_list(without_last_zeros(&placing.populations)),
                 show_list(without_last_zeros(&placing.seats)),
+                show_list(asked),
             ),
             Case::Departure {
                 population,

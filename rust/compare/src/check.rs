@@ -1,22 +1,28 @@
 //! One case given to both desks. The library's answers come through the C interface, with guards
 //! around everything it is lent; the reference's are put into the same form. Where a case is about
-//! growth, the library's seats are held to a law too, and so is every clean copy that it writes.
+//! growth, the library's seats are held to a law too, and so are its moves and every clean copy that
+//! it writes.
 
 use crate::growth::{self, Poll};
+use crate::moves::{self, in_c};
 use crate::{clean, Case};
 use desk::ffi;
-use reference::{Mark, Method, Placing, Refusal, Register, STATES_LIMIT};
+use reference::{Mark, Method, Refusal, Register, STATES_LIMIT};
 use std::fmt::Debug;
 
 /// What a run has seen: inputs by kind, calls to the library, answers by refusal number (0 where
 /// none was given), placings and allotments compared with the search, and what came of the laws of
-/// growth and of clean copies.
+/// moves, of growth and of clean copies.
 #[derive(Clone, Debug)]
 pub struct Counts {
     pub inputs: [u64; Case::KINDS.len()],
     pub calls: u64,
     pub refusals: [u64; 64],
     pub searched: u64,
+    /// Pairs of moves that left what one move by their sum leaves.
+    pub sums: u64,
+    /// Of these, pairs in which either move moved seats; otherwise there is little to break.
+    pub halts: u64,
     pub one_seat_more: Outcomes,
     pub two_polls: Outcomes,
     /// Pairs of polls in which seats moved from some states to others, under the methods that keep
@@ -45,6 +51,8 @@ impl Default for Counts {
             calls: 0,
             refusals: [0; 64],
             searched: 0,
+            sums: 0,
+            halts: 0,
             one_seat_more: Outcomes::default(),
             two_polls: Outcomes::default(),
             moved: 0,
@@ -61,6 +69,8 @@ impl Counts {
         add_each(&mut self.refusals, &other.refusals);
         self.calls += other.calls;
         self.searched += other.searched;
+        self.sums += other.sums;
+        self.halts += other.halts;
         self.one_seat_more.add(&other.one_seat_more);
         self.two_polls.add(&other.two_polls);
         self.moved += other.moved;
@@ -69,7 +79,7 @@ impl Counts {
         self.other_copies += other.other_copies;
     }
 
-    fn call(&mut self, refusal: u64) {
+    pub(crate) fn call(&mut self, refusal: u64) {
         self.calls += 1;
         self.refusals[refusal as usize] += 1;
     }
@@ -122,7 +132,10 @@ pub fn check(case: &Case, counts: &mut Counts) -> Result<(), String> {
             populations,
         } => check_allot(*method, *house, populations, *room, counts).map(|_| ()),
         Case::Walk { house, populations } => check_walk(populations, *house, counts),
-        Case::Step { placing } => check_step(placing, counts),
+        Case::Moves { placing, asked } => {
+            moves::check_each(moves::library, placing, asked, counts)?;
+            moves::check_sums(moves::library, placing, asked, counts)
+        }
         &Case::Departure {
             population,
             seats,
@@ -152,7 +165,7 @@ struct Lent<T> {
     length: usize,
 }
 
-const GUARD: usize = 32;
+pub(crate) const GUARD: usize = 32;
 
 impl<T: Copy + PartialEq + Debug> Lent<T> {
     /// A list to be read, between guards.
@@ -208,11 +221,15 @@ const JUNK_BYTES: [u8; 256] = {
     bytes
 };
 
-fn junk_number(i: usize) -> u64 {
+pub(crate) fn junk_number(i: usize) -> u64 {
     (i as u64 + 1).wrapping_mul(0x9E37_79B9_7F4A_7C15)
 }
 
-fn same<T: PartialEq + Debug>(what: &str, expected: &T, found: &T) -> Result<(), String> {
+pub(crate) fn same<T: PartialEq + Debug>(
+    what: &str,
+    expected: &T,
+    found: &T,
+) -> Result<(), String> {
     if expected == found {
         return Ok(());
     }
@@ -522,7 +539,7 @@ fn check_allot(
 }
 
 /// For a small problem, the seats have to be those that the search through every allotment finds.
-fn check_search(
+pub(crate) fn check_search(
     populations: &[u64],
     house: u64,
     total: u64,
@@ -616,19 +633,7 @@ const NO_PLACING: ffi::Placing = ffi::Placing {
     seats: [0; STATES_LIMIT],
 };
 
-fn in_c(placing: &Placing) -> ffi::Placing {
-    ffi::Placing {
-        states: placing.states,
-        house: placing.house,
-        total: placing.total,
-        steps: placing.steps,
-        populations: placing.populations,
-        seats: placing.seats,
-    }
-}
-
-/// Opening, and every step to the house. The reference goes the way once; its own step, which
-/// replays a placing from its opening, is asked at the house alone.
+/// Opening, and if it is not refused, the way to the house.
 fn check_walk(populations: &[u64], house: u64, counts: &mut Counts) -> Result<(), String> {
     let opened = reference::open(populations, house);
     let expected = match &opened {
@@ -649,54 +654,10 @@ fn check_walk(populations: &[u64], house: u64, counts: &mut Counts) -> Result<()
     same("desk_open", &expected, &found)?;
     same("populations after desk_open", &before, &lent.whole)?;
 
-    let Ok(opened) = opened else {
-        return Ok(());
-    };
-    let gap = opened.total.abs_diff(house);
-    let on_the_way = reference::way(populations, house).expect("an opening not refused");
-    let mut placing = opened;
-    for next in on_the_way.skip(1) {
-        check_leximin(&placing, counts)?;
-        check_moved(&placing, 0, &next, counts)?;
-        placing = next;
+    match &opened {
+        Ok(opened) => moves::check_way(moves::library, opened, counts),
+        Err(_) => Ok(()),
     }
-    same("total at the end of the way", &house, &placing.total)?;
-    same("steps at the end of the way", &gap, &placing.steps)?;
-    check_leximin(&placing, counts)?;
-    check_step(&placing, counts)?;
-    check_moved(&placing, 20, &placing, counts)?;
-    check_moved(&placing, 20, &placing, counts)
-}
-
-/// For a small problem, the placing's seats have to be those that the search finds for its total.
-fn check_leximin(placing: &Placing, counts: &mut Counts) -> Result<(), String> {
-    let n = placing.states as usize;
-    let (populations, seats) = (&placing.populations[..n], &placing.seats[..n]);
-    check_search(populations, placing.house, placing.total, seats, counts)
-}
-
-/// One step of a placing that may be anything.
-fn check_step(placing: &Placing, counts: &mut Counts) -> Result<(), String> {
-    let (next, outcome) = placing.step();
-    let refusal = outcome.map_or_else(|refusal| refusal.number, |()| 0);
-    check_moved(placing, refusal, &next, counts)
-}
-
-/// The library's step of a placing has to give a refusal, or 0, and the placing after it.
-fn check_moved(
-    placing: &Placing,
-    refusal: u64,
-    next: &Placing,
-    counts: &mut Counts,
-) -> Result<(), String> {
-    let expected = ffi::Placed {
-        refusal,
-        placing: in_c(next),
-    };
-    // SAFETY: the placing is handed over by value.
-    let found = unsafe { ffi::desk_step(in_c(placing)) };
-    counts.call(refusal);
-    same("desk_step", &expected, &found)
 }
 
 // ---- Departures

@@ -1,14 +1,15 @@
 //! Inputs that every run begins with: the document's examples, departures that are hard to round,
 //! the limits, equal quotients at the largest seats, the quota method at every house of some
 //! problems and at the limits, one seat more and two polls, pairs of registers to be cleaned, the
-//! longest registers, and one register cut, changed, filled and thinned at every byte.
+//! longest walk, lists of moves, the longest registers, and one register cut, changed, filled and
+//! thinned at every byte.
 
 use crate::copies::Content;
 use crate::damage::{self, Draft};
 use crate::growth::ONE_SEAT_MORE;
 use crate::random::Random;
 use crate::{seeded, Case, METHODS, MOST_STATES};
-use reference::{Method, Placing, BYTES_LIMIT, HOUSE_LIMIT, STATES_LIMIT, SUM_LIMIT};
+use reference::{way, Method, Placing, BYTES_LIMIT, HOUSE_LIMIT, STATES_LIMIT, SUM_LIMIT};
 
 /// The fixed inputs; the seed settles only which room and place a register is tried with, and
 /// which sound register is damaged beside the document's own.
@@ -28,6 +29,8 @@ pub fn fixed(seed: u64) -> Vec<Case> {
     cases.extend(copies());
     cases.extend(longest_copies());
     cases.extend(longest_walk());
+    cases.extend(moves());
+    cases.extend(foreign_moves());
     cases.extend(longest_registers(random));
     cases.extend(alike(random));
     let listed = b"register,leximin,20,5\r\nA,26\nB,27\r\nC,28\nD,29\nE,91\ntotal,201\n".to_vec();
@@ -193,8 +196,13 @@ fn listed_departures() -> Vec<Case> {
 
 /// As many states as can be, one of which has all voters but one for each other.
 fn giant() -> Vec<u64> {
-    let mut populations = vec![1; STATES_LIMIT];
-    populations[STATES_LIMIT / 2] = SUM_LIMIT - (MOST_STATES - 1);
+    giant_among(STATES_LIMIT)
+}
+
+/// So many states, one of which has all voters but one for each other.
+fn giant_among(n: usize) -> Vec<u64> {
+    let mut populations = vec![1; n];
+    populations[n / 2] = SUM_LIMIT - (n as u64 - 1);
     populations
 }
 
@@ -264,19 +272,6 @@ fn limits(random: &mut Random) -> Vec<Case> {
                 });
             }
         }
-    }
-    for number in [0, 1, STATES_LIMIT as u64, u64::MAX] {
-        let populations = [number; STATES_LIMIT];
-        cases.push(Case::Step {
-            placing: Box::new(Placing {
-                states: number,
-                house: number,
-                total: number,
-                steps: number,
-                populations,
-                seats: populations,
-            }),
-        });
     }
     cases
 }
@@ -554,6 +549,117 @@ fn longest_walk() -> Vec<Case> {
     ]
 }
 
+/// The placings on the way from an opening to its house.
+fn placings(house: u64, populations: &[u64]) -> Vec<Placing> {
+    way(populations, house).expect("a sound problem").collect()
+}
+
+/// A placing and the numbers to move it by.
+fn moving(placing: &Placing, asked: &[u64]) -> Case {
+    Case::Moves {
+        placing: Box::new(*placing),
+        asked: asked.to_vec(),
+    }
+}
+
+/// Moves from the start, from halfway and at the house: on the longest way that we know, on one where
+/// all states are equal, on short ones down and up, and where the start is the house already.
+fn moves() -> Vec<Case> {
+    let equal = vec![SUM_LIMIT / MOST_STATES; STATES_LIMIT];
+    let problems = [
+        (MOST_STATES, giant()),
+        (MOST_STATES + MOST_STATES / 4, equal),
+        (20, vec![26, 27, 28, 29, 91]),
+        (4, vec![1, 1, 1, 97]),
+        (26, vec![100; 20]),
+        (4, vec![6, 6, 12]),
+    ];
+    let mut cases = Vec::new();
+    for (house, populations) in problems {
+        let placings = placings(house, &populations);
+        let gap = placings.len() - 1;
+        for steps in [0, gap / 2, gap] {
+            let lists = lists((gap - steps) as u64);
+            cases.extend(lists.iter().map(|asked| moving(&placings[steps], asked)));
+        }
+    }
+    cases
+}
+
+/// Numbers for a placing with so many seats left to its house: none, 0, all that are left at once, in
+/// halves and but for one, more than are left, and the largest, alone, in parts, and twice.
+fn lists(left: u64) -> [Vec<u64>; 12] {
+    let (half, but_one) = (left / 2, left.saturating_sub(1));
+    [
+        vec![],
+        vec![0, 0],
+        vec![left],
+        vec![half, left - half],
+        vec![left - half, half, 0],
+        vec![1, but_one, 1],
+        vec![but_one, 1, 1],
+        vec![left + 1],
+        vec![u64::MAX],
+        vec![1, u64::MAX - 1, 0, 1],
+        vec![1 << 63, 1 << 63],
+        vec![u64::MAX, u64::MAX],
+    ]
+}
+
+/// Foreign placings, moved by 0 and by more: with one thing changed at the start, halfway and at the
+/// house, one that has its house for a total and not the seats, one at its house with the seats of
+/// equal states changed about, and some that hold one number everywhere.
+fn foreign_moves() -> Vec<Case> {
+    let edits: [fn(&mut Placing); 7] = [
+        |placing| placing.seats[placing.states as usize] = 1,
+        |placing| placing.populations[placing.states as usize] = 1,
+        |placing| placing.seats[STATES_LIMIT - 1] = u64::MAX,
+        |placing| placing.populations[STATES_LIMIT - 1] = u64::MAX,
+        |placing| placing.total += 1,
+        |placing| placing.steps += 1,
+        |placing| {
+            placing.seats[0] += 1;
+            placing.seats[placing.states as usize - 1] -= 1;
+        },
+    ];
+    let five = (7, vec![5; 5]);
+    let most = (MOST_STATES - 1, giant_among(STATES_LIMIT - 1));
+    let mut forged = Vec::new();
+    for (house, populations) in [five, most] {
+        let placings = placings(house, &populations);
+        let gap = placings.len() - 1;
+        for steps in [0, gap / 2, gap] {
+            for edit in edits {
+                let mut placing = placings[steps];
+                edit(&mut placing);
+                forged.push(placing);
+            }
+        }
+        let mut placing = placings[0];
+        placing.total = house;
+        forged.push(placing);
+    }
+    // At its house the first two of the five have 2 seats and the others 1.
+    let mut placing = placings(7, &[5; 5])[3];
+    placing.seats.swap(1, 2);
+    forged.push(placing);
+    for number in [0, 1, MOST_STATES, u64::MAX] {
+        forged.push(Placing {
+            states: number,
+            house: number,
+            total: number,
+            steps: number,
+            populations: [number; STATES_LIMIT],
+            seats: [number; STATES_LIMIT],
+        });
+    }
+    let asked = [0, 1, u64::MAX, u64::MAX];
+    forged
+        .iter()
+        .map(|placing| moving(placing, &asked))
+        .collect()
+}
+
 /// Registers of as many states as can be and more, each line as long as it can be: accepted, with
 /// a fault in one of the last lines, and going on after the closing line up to the most bytes and
 /// past them.
@@ -686,6 +792,32 @@ mod tests {
         let same: usize = groups.iter().sum();
         let pairs: usize = groups.iter().map(|n| n * n).sum();
         assert_eq!(said, [pairs - same + 4, same + 1]);
+    }
+
+    /// The placings of some moves.
+    fn moved(cases: Vec<Case>) -> impl Iterator<Item = (Placing, Vec<u64>)> {
+        cases.into_iter().map(|case| match case {
+            Case::Moves { placing, asked } => (*placing, asked),
+            _ => panic!("not a move: {case:?}"),
+        })
+    }
+
+    #[test]
+    fn placings_to_be_moved_are_foreign_or_genuine_as_they_should_be() {
+        let mut longest = 0;
+        for (mut placing, asked) in moved(moves()) {
+            assert!(placing.is_genuine());
+            for seats in asked {
+                longest = longest.max(placing.advance(seats).unwrap());
+            }
+        }
+        assert_eq!(longest, MOST_STATES - 1);
+        let mut at_house = 0;
+        for (placing, asked) in moved(foreign_moves()) {
+            assert!(!placing.is_genuine() && asked[0] == 0);
+            at_house += (placing.total == placing.house) as u64;
+        }
+        assert!(at_house > 10, "{at_house}");
     }
 
     #[test]

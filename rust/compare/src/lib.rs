@@ -1,6 +1,6 @@
 //! The proved desk against the plain reference: seeded inputs are given to both through the C
-//! interface, and every number, list and lent buffer that comes back has to agree. The seats are
-//! held to the laws of growth besides, and clean copies to their own laws.
+//! interface, and every number, list, lent buffer and lent placing that comes back has to agree. The
+//! seats are held to the laws of growth besides, and moves and clean copies to their own laws.
 
 mod case;
 mod check;
@@ -9,6 +9,7 @@ mod copies;
 mod damage;
 mod fixed;
 pub mod growth;
+pub mod moves;
 mod placing;
 mod polls;
 mod problem;

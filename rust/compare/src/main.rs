@@ -1,6 +1,6 @@
 //! `compare --seed S --count N` gives N inputs to the proved desk and to the plain reference and
 //! ends with a line of counts; an input on which they differ, whose seats break a law of growth that
-//! their method keeps, or whose clean copies break theirs, is printed as a line that
+//! their method keeps, or whose moves or clean copies break theirs, is printed as a line that
 //! `compare --replay LINE` runs again.
 
 use compare::{check, Case, Counts, Inputs};
@@ -134,7 +134,7 @@ fn run(options: &Options) -> bool {
 }
 
 /// What was compared, in one line: inputs of each kind, calls, answers by refusal number, and what
-/// came of the laws of growth and of clean copies.
+/// came of the laws of moves, of growth and of clean copies.
 fn closing_line(seed: u64, counts: &Counts, differing: usize) -> String {
     let kinds = Case::KINDS.iter().zip(counts.inputs);
     let kinds: Vec<String> = kinds
@@ -149,6 +149,7 @@ fn closing_line(seed: u64, counts: &Counts, differing: usize) -> String {
     let sum = |numbers: &[u64]| numbers.iter().sum::<u64>();
     format!(
         "seed {seed}: {} inputs ({}), {} calls, {} searched through, accepted {}, refused {}; \
+         {} pairs of moves were one by their sum ({} with seats moved by both); \
          one seat more held {} times and two polls {} times ({} with seats moved), \
          broken {} and {} times under methods that are excepted; \
          {} clean copies read and cleaned again, of pairs of registers {} had equal ones and {} had \
@@ -159,6 +160,8 @@ fn closing_line(seed: u64, counts: &Counts, differing: usize) -> String {
         counts.searched,
         counts.refusals[0],
         refusals.join(", "),
+        counts.sums,
+        counts.halts,
         sum(&more.held),
         sum(&polls.held),
         counts.moved,

@@ -20,9 +20,7 @@ pub fn seeded(seed: u64, number: u64) -> Case {
         }
         6..=9 => allot(random),
         10..=12 => walk(random),
-        13..=15 => Case::Step {
-            placing: Box::new(placing::placing(random)),
-        },
+        13..=15 => moves(random),
         16 | 17 => departure(random),
         18 => one_seat_more(random),
         _ => two_polls(random),
@@ -180,6 +178,15 @@ fn allot(random: &mut Random) -> Case {
 fn walk(random: &mut Random) -> Case {
     let (populations, house) = any_problem(random);
     Case::Walk { house, populations }
+}
+
+fn moves(random: &mut Random) -> Case {
+    let placing = placing::placing(random);
+    let asked = placing::numbers(random, &placing);
+    Case::Moves {
+        placing: Box::new(placing),
+        asked,
+    }
 }
 
 /// A method and a problem to allot twice: mostly a method that keeps a law, mostly a sound problem,

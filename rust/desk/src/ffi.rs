@@ -36,12 +36,20 @@ pub struct Placing {
     pub seats: [u64; STATES_LIMIT],
 }
 
-/// A placing handed back, and whether its call was refused.
+/// What opening hands back: whether it was refused, and the placing.
 #[repr(C)]
 #[derive(Clone, Copy, Debug, PartialEq, Eq)]
 pub struct Placed {
     pub refusal: u64,
     pub placing: Placing,
+}
+
+/// A placing moved on: by how many seats, 0 on a refusal.
+#[repr(C)]
+#[derive(Clone, Copy, Debug, PartialEq, Eq)]
+pub struct Moved {
+    pub refusal: u64,
+    pub moved: u64,
 }
 
 /// A shown departure in thousandths of a per cent, and its mark.
@@ -83,7 +91,7 @@ extern "C" {
         room: usize,
     ) -> Allotted;
     pub fn desk_open(populations: *const u64, n: usize, house: u64) -> Placed;
-    pub fn desk_step(placing: Placing) -> Placed;
+    pub fn desk_move(placing: &mut Placing, seats: u64) -> Moved;
     pub fn desk_departure(population: u64, seats: u64, total: u64, house: u64) -> Shown;
     pub fn desk_listing(bytes: *const u8, length: usize, out: *mut u8, room: usize) -> Written;
     pub fn desk_clean(bytes: *const u8, length: usize, out: *mut u8, room: usize) -> Written;

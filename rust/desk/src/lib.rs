@@ -165,19 +165,24 @@ pub fn allot(
     Ok(allotted.steps)
 }
 
-/// Leximin's work, seat by seat: from each state's nearest seats, one step at a time, to the
-/// house.
+/// Leximin's work, from each state's nearest seats to the house: a screen moves it on by one seat at
+/// a time, and a batch run by all that are left.
 ///
 /// ```
-/// let mut placing = desk::Placing::open(&[3, 3], 3).unwrap();
-/// assert_eq!(placing.seats(), [2, 2]);
-/// while placing.total() != placing.house() {
-///     let (next, outcome) = placing.step();
-///     outcome.unwrap();
-///     placing = next;
-/// }
-/// assert_eq!(placing.seats(), [2, 1]);
-/// assert_eq!(placing.steps(), 1);
+/// let mut placing = desk::Placing::open(&[1, 1, 1, 97], 4).unwrap();
+/// assert_eq!(placing.seats(), [1, 1, 1, 4]);
+///
+/// // One seat, to be shown.
+/// assert_eq!(placing.advance(1), Ok(1));
+/// assert_eq!(placing.seats(), [1, 1, 1, 3]);
+///
+/// // The rest in one call: any number from the gap on will do.
+/// assert_eq!(placing.advance(u64::MAX), Ok(2));
+/// assert_eq!(placing.seats(), [1, 1, 1, 1]);
+/// assert_eq!((placing.total(), placing.steps()), (4, 3));
+///
+/// // At the house nothing moves.
+/// assert_eq!(placing.advance(1), Ok(0));
 /// ```
 #[derive(Clone, Debug, PartialEq, Eq)]
 pub struct Placing(ffi::Placing);
@@ -191,12 +196,15 @@ impl Placing {
         Ok(Placing(placed.placing))
     }
 
-    /// Places or withdraws one seat: refusal 20 once the house is reached, with the placing as it
-    /// was. One that was opened and stepped here is never refused 21.
-    pub fn step(self) -> (Placing, Result<(), Refusal>) {
-        // SAFETY: the placing is handed over by value.
-        let placed = unsafe { ffi::desk_step(self.0) };
-        (Placing(placed.placing), outcome(placed.refusal, 0))
+    /// Moves on towards the house by so many seats and hands back how many were moved: all of them,
+    /// or those that were left to the house. Two moves come to the same as one by their sum, if there
+    /// is such a number. Refusal 21 is for a placing that opening and moves do not give, which safe
+    /// code cannot make.
+    pub fn advance(&mut self, seats: u64) -> Result<u64, Refusal> {
+        // SAFETY: the placing is lent for this call alone.
+        let moved = unsafe { ffi::desk_move(&mut self.0, seats) };
+        outcome(moved.refusal, 0)?;
+        Ok(moved.moved)
     }
 
     pub fn house(&self) -> u64 {

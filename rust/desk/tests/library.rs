@@ -20,6 +20,7 @@ fn structures_have_the_sizes_of_the_header() {
     assert_eq!(size_of::<ffi::Allotted>(), 8 * 2);
     assert_eq!(size_of::<ffi::Placing>(), 8 * (4 + 2 * STATES_LIMIT));
     assert_eq!(size_of::<ffi::Placed>(), 8 * (5 + 2 * STATES_LIMIT));
+    assert_eq!(size_of::<ffi::Moved>(), 8 * 2);
     assert_eq!(size_of::<ffi::Shown>(), 8 * 3);
     assert_eq!(size_of::<ffi::Written>(), 8 * 3);
     assert_eq!(size_of::<ffi::Part>(), 8 * 4);
@@ -142,23 +143,25 @@ fn refusals_leave_what_was_lent() {
 }
 
 #[test]
-fn stepping_ends_at_the_house() {
+fn moving_ends_at_the_house() {
     let mut placing = Placing::open(&[26, 27, 28, 29, 91], 20).unwrap();
     assert_eq!((placing.total(), placing.steps()), (21, 0));
-    let (next, outcome) = placing.clone().step();
-    assert_eq!(outcome, Ok(()));
-    placing = next;
+    assert_eq!(placing.advance(1), Ok(1));
     assert_eq!((placing.total(), placing.steps()), (20, 1));
     assert_eq!(placing.seats(), [3, 3, 3, 3, 8]);
-    let (same, outcome) = placing.clone().step();
-    assert_eq!(
-        outcome,
-        Err(Refusal {
-            number: 20,
-            line: 0
-        })
-    );
-    assert_eq!(same, placing);
+    let at_house = placing.clone();
+    for seats in [0, 1, u64::MAX] {
+        assert_eq!(placing.advance(seats), Ok(0));
+        assert_eq!(placing, at_house);
+    }
+}
+
+#[test]
+fn moving_by_none_leaves_a_placing_as_it_was() {
+    let opened = Placing::open(&[1, 1, 1, 97], 4).unwrap();
+    let mut placing = opened.clone();
+    assert_eq!(placing.advance(0), Ok(0));
+    assert_eq!(placing, opened);
 }
 
 #[test]
@@ -206,23 +209,97 @@ fn past_the_limits_a_house_and_states_are_refused() {
     }
 }
 
-#[test]
-fn a_walk_at_the_limit_ends_at_the_house() {
-    // The last state has all voters but one for each other, and gives up a seat at every step.
+/// A placing at the limits: the last state has all voters but one for each other, and gives up a seat
+/// with every move.
+fn longest_walk() -> Placing {
     let states = STATES_LIMIT as u64;
     let mut populations = [1; STATES_LIMIT];
     populations[STATES_LIMIT - 1] = 4_294_967_295 - (states - 1);
-    let mut placing = Placing::open(&populations, states).unwrap();
+    Placing::open(&populations, states).unwrap()
+}
+
+#[test]
+fn a_walk_at_the_limit_ends_at_the_house() {
+    let states = STATES_LIMIT as u64;
+    let mut placing = longest_walk();
     assert_eq!(placing.total(), 2 * states - 1);
     for k in 1..states {
-        let (next, outcome) = placing.step();
-        assert_eq!(outcome, Ok(()));
-        assert_eq!((next.total(), next.steps()), (2 * states - 1 - k, k));
-        placing = next;
+        assert_eq!(placing.advance(1), Ok(1));
+        assert_eq!((placing.total(), placing.steps()), (2 * states - 1 - k, k));
     }
     assert_eq!(placing.seats(), [1; STATES_LIMIT]);
-    let (_, outcome) = placing.step();
-    assert_eq!(outcome.unwrap_err().number, 20);
+    assert_eq!(placing.advance(1), Ok(0));
+}
+
+#[test]
+fn a_walk_by_any_numbers_ends_in_the_same_placing() {
+    let gap = STATES_LIMIT as u64 - 1;
+    let mut by_one = longest_walk();
+    for _ in 0..gap {
+        by_one.advance(1).unwrap();
+    }
+    // The numbers asked for, and how many are moved by each.
+    let lists: [&[(u64, u64)]; 6] = [
+        &[(gap, gap)],
+        &[(u64::MAX, gap), (u64::MAX, 0)],
+        &[(gap + 1, gap)],
+        &[(gap / 2, gap / 2), (gap - gap / 2, gap - gap / 2)],
+        &[(0, 0), (gap - 1, gap - 1), (0, 0), (2, 1), (0, 0)],
+        &[(1, 1), (u64::MAX, gap - 1)],
+    ];
+    for list in lists {
+        let mut placing = longest_walk();
+        for &(seats, moved) in list {
+            assert_eq!(placing.advance(seats), Ok(moved), "{list:?}");
+        }
+        assert_eq!(placing, by_one, "{list:?}");
+    }
+}
+
+#[test]
+fn a_foreign_placing_is_refused_and_left_as_it_was() {
+    // SAFETY: the pointer has two numbers after it.
+    let mut opened = unsafe { ffi::desk_open([3, 3].as_ptr(), 2, 3) }.placing;
+    assert_eq!((opened.total, opened.seats[..2].to_vec()), (4, vec![2, 2]));
+    let at_start = opened;
+    // SAFETY: the placing is lent for the call alone, here and below.
+    let moved = |placing: &mut ffi::Placing, seats| unsafe { ffi::desk_move(placing, seats) };
+    assert_eq!(moved(&mut opened, 1).moved, 1);
+    let at_house = opened;
+    type Edit = fn(&mut ffi::Placing);
+    let edits: [(&str, Edit); 10] = [
+        ("a seat past its states", |p| p.seats[2] = 1),
+        ("a seat in the last place", |p| {
+            p.seats[STATES_LIMIT - 1] = u64::MAX
+        }),
+        ("a population past its states", |p| p.populations[2] = 7),
+        ("junk in all places past its states", |p| {
+            p.seats[2..].fill(u64::MAX);
+            p.populations[2..].fill(u64::MAX);
+        }),
+        ("seats of the other state", |p| {
+            (p.seats[0], p.seats[1]) = (1, p.total - 1)
+        }),
+        ("a wrong total", |p| p.total += 1),
+        ("overstated steps", |p| p.steps = u64::MAX),
+        ("another house", |p| p.house = 5),
+        ("more states than the limit", |p| {
+            p.states = STATES_LIMIT as u64 + 1
+        }),
+        ("no states", |p| p.states = 0),
+    ];
+    for (what, edit) in edits {
+        for genuine in [at_start, at_house] {
+            let mut forged = genuine;
+            edit(&mut forged);
+            let before = forged;
+            for seats in [0, 1, 2, u64::MAX] {
+                let answer = moved(&mut forged, seats);
+                assert_eq!((answer.refusal, answer.moved), (21, 0), "{what}, {seats}");
+                assert_eq!(forged, before, "{what}, {seats}");
+            }
+        }
+    }
 }
 
 #[test]

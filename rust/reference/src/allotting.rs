@@ -1,6 +1,6 @@
 //! Allotting a house by any of the eight methods: the divisor methods by a heap of claims,
 //! largest remainders by sorting, the quota method by one heap of states that wait and one of
-//! those that may have the next seat, leximin by opening a placing and stepping to the house.
+//! those that may have the next seat, leximin by moving seats from its start to the house.
 
 use crate::{leximin, refusal, Method, Refusal, HOUSE_LIMIT, STATES_LIMIT, SUM_LIMIT};
 use std::cmp::{Ordering, Reverse};

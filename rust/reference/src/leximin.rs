@@ -173,17 +173,18 @@ pub fn way(populations: &[u64], house: u64) -> Result<impl Iterator<Item = Placi
 }
 
 impl Placing {
-    /// Places or withdraws one seat. A refused step hands the placing back unaltered.
-    pub fn step(self) -> (Placing, Result<(), Refusal>) {
+    /// Moves on towards the house by so many seats, or by those that are left if they are fewer, and
+    /// hands back how many were moved. Refused, the placing keeps its contents.
+    pub fn advance(&mut self, seats: u64) -> Result<u64, Refusal> {
         if !self.is_genuine() {
-            return (self, Err(refusal(21)));
+            return Err(refusal(21));
         }
-        if self.total == self.house {
-            return (self, Err(refusal(20)));
+        let mut moved = 0;
+        while moved < seats && self.total != self.house {
+            self.move_one_seat();
+            moved += 1;
         }
-        let mut next = self;
-        next.move_one_seat();
-        (next, Ok(()))
+        Ok(moved)
     }
 
     /// Whether opening and as many steps as it claims give just this placing.

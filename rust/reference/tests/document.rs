@@ -143,8 +143,14 @@ fn allotting_is_refused_in_the_order_of_the_document() {
 
 // ---- The placing
 
+/// A placing after a move, and how many were moved.
+fn moved(mut placing: Placing, seats: u64) -> (u64, Placing) {
+    let moved = placing.advance(seats).unwrap();
+    (moved, placing)
+}
+
 #[test]
-fn stepping_reaches_the_house_and_stays_there() {
+fn moving_by_one_reaches_the_house_and_stays_there() {
     let populations = [26, 27, 28, 29, 91];
     let opened = open(&populations, 20).unwrap();
     let gap = opened.total.abs_diff(20);
@@ -152,19 +158,95 @@ fn stepping_reaches_the_house_and_stays_there() {
     assert_eq!(on_the_way.len() as u64, gap + 1);
     let mut placing = opened;
     for k in 1..=gap + 3 {
-        let (next, outcome) = placing.step();
-        if k <= gap {
-            assert_eq!(outcome, Ok(()));
-            assert_eq!(next.steps, k);
-            assert_eq!(next.total.abs_diff(opened.total), k);
-            assert_eq!(next, on_the_way[k as usize]);
-        } else {
-            assert_eq!(outcome.unwrap_err().number, 20);
-            assert_eq!(next, placing);
-        }
-        placing = next;
+        assert_eq!(placing.advance(1), Ok((k <= gap) as u64));
+        assert_eq!(placing.steps, k.min(gap));
+        assert_eq!(placing.total.abs_diff(opened.total), k.min(gap));
+        assert_eq!(placing, on_the_way[k.min(gap) as usize]);
     }
     assert_eq!(placing.seats[..5], [3, 3, 3, 3, 8]);
+}
+
+/// Problems whose way to the house goes up, down, or nowhere, most with equal departures on it.
+fn short_ways() -> [(Vec<u64>, u64); 7] {
+    [
+        (vec![1, 1, 1, 97], 4),
+        (vec![5; 5], 7),
+        (vec![7; 6], 8),
+        (vec![3, 3], 3),
+        (vec![1, 1, 2, 9], 4),
+        (vec![4, 13, 13], 10),
+        (vec![6, 6, 12], 4),
+    ]
+}
+
+#[test]
+fn wherever_a_move_halts_the_search_finds_the_same_seats() {
+    let mut halts = 0;
+    for (populations, house) in short_ways() {
+        let opened = open(&populations, house).unwrap();
+        let gap = opened.total.abs_diff(house);
+        for seats in (0..=gap + 1).chain([u64::MAX]) {
+            let (_, placing) = moved(opened, seats);
+            let least = search(&populations, house, placing.total).unwrap();
+            assert_eq!(placing.seats[..populations.len()], least);
+            assert_eq!(placing.populations, opened.populations);
+            assert_eq!(placing.house, house);
+            halts += 1;
+        }
+    }
+    assert!(halts > 30, "{halts}");
+}
+
+#[test]
+fn two_moves_are_one_by_their_sum() {
+    for (populations, house) in short_ways() {
+        let opened = open(&populations, house).unwrap();
+        let gap = opened.total.abs_diff(house);
+        let numbers: Vec<u64> = (0..=gap + 2).chain([u64::MAX - 1, u64::MAX]).collect();
+        for start in 0..=gap {
+            let (_, placing) = moved(opened, start);
+            for &j in &numbers {
+                let (first, halt) = moved(placing, j);
+                let fitting = numbers.iter().filter(|&k| j.checked_add(*k).is_some());
+                for &k in fitting {
+                    let (second, end) = moved(halt, k);
+                    assert_eq!((first + second, end), moved(placing, j + k), "{j} {k}");
+                }
+            }
+        }
+    }
+}
+
+#[test]
+fn a_list_of_moves_makes_the_smaller_of_its_sum_and_the_gap() {
+    let lists: [&[u64]; 10] = [
+        &[],
+        &[0],
+        &[0, 0, 0],
+        &[1],
+        &[1, 1],
+        &[1, 0, 2, 0],
+        &[2, 1, 1],
+        &[u64::MAX],
+        &[u64::MAX, u64::MAX],
+        &[1, u64::MAX, 1, 1 << 63, 1 << 63],
+    ];
+    for (populations, house) in short_ways() {
+        let opened = open(&populations, house).unwrap();
+        let gap = opened.total.abs_diff(house);
+        let on_the_way: Vec<Placing> = way(&populations, house).unwrap().collect();
+        for list in lists {
+            let mut placing = opened;
+            let (mut sum, mut in_all) = (0, 0);
+            for &seats in list {
+                in_all += placing.advance(seats).expect("no move of these is refused");
+                sum += seats as u128;
+                let steps = sum.min(gap as u128) as u64;
+                assert_eq!((placing.steps, in_all), (steps, steps), "{list:?}");
+                assert_eq!(placing, on_the_way[steps as usize], "{list:?}");
+            }
+        }
+    }
 }
 
 #[test]
@@ -179,12 +261,13 @@ fn a_walk_can_have_as_many_steps_as_there_are_other_states() {
         assert_eq!((placing.seats[0], placing.steps), (states - k, k));
         assert!(placing.seats[1..].iter().all(|&a| a == 1));
     }
-    assert_eq!(
-        on_the_way[STATES_LIMIT - 2].step(),
-        (on_the_way[STATES_LIMIT - 1], Ok(()))
-    );
-    let (_, outcome) = on_the_way[STATES_LIMIT - 1].step();
-    assert_eq!(outcome.unwrap_err().number, 20);
+    let (start, end) = (on_the_way[0], on_the_way[STATES_LIMIT - 1]);
+    let before = on_the_way[STATES_LIMIT - 2];
+    assert_eq!(moved(start, u64::MAX), (states - 1, end));
+    assert_eq!(moved(start, states - 2), (states - 2, before));
+    assert_eq!(moved(before, 1), (1, end));
+    assert_eq!(moved(before, 2), (1, end));
+    assert_eq!(moved(end, 1), (0, end));
 }
 
 #[test]
@@ -199,11 +282,10 @@ fn opening_is_refused_in_the_order_of_the_document() {
 }
 
 #[test]
-fn forged_placings_are_refused_21_and_come_back_as_they_were() {
+fn forged_placings_are_refused_21_and_stay_as_they_were() {
     let equal = open(&[3, 3], 3).unwrap();
-    let (at_house, outcome) = equal.step();
-    assert_eq!(outcome, Ok(()));
-    assert_eq!((at_house.total, at_house.steps), (3, 1));
+    let (one, at_house) = moved(equal, 1);
+    assert_eq!((one, at_house.total, at_house.steps), (1, 3, 1));
     type Edit = fn(&mut Placing);
     let edits: [(&str, Edit); 12] = [
         ("seats of equal states swapped", |p| p.seats.swap(0, 1)),
@@ -235,11 +317,14 @@ fn forged_placings_are_refused_21_and_come_back_as_they_were() {
     for (what, edit) in edits {
         let mut forged = at_house;
         edit(&mut forged);
-        let (back, outcome) = forged.step();
-        assert_eq!(outcome.map_err(|r| r.number), Err(21), "{what}");
-        assert_eq!(back, forged, "{what}");
+        let before = forged;
+        for seats in [0, 1, u64::MAX] {
+            let outcome = forged.advance(seats);
+            assert_eq!(outcome.map_err(|r| r.number), Err(21), "{what}");
+            assert_eq!(forged, before, "{what}");
+        }
     }
-    assert_eq!(at_house.step().1.unwrap_err().number, 20);
+    assert_eq!(moved(at_house, 0), (0, at_house));
 }
 
 // ---- Departures

@@ -8,9 +8,9 @@ use native.Mathlib.Omega.{arith}
 use native.Mathlib.Nat.{add-mul, suc-mul, zero-mul, mul-zero, mul-one}
 use native.Mathlib.Numerals.{add-one}
 use lib.Dec.{leb, eqb}
-use lib.ListN.{length, getD, take, replicate, length-map}
-use lib.Seq.{ext-getD}
-use borrow.Author.Tests.{eq-eqb, eqb-true, eqb-false, leb-true, leb-false}
+use lib.ListN.{length, getD, take, drop, replicate, length-map, drop-of-length-le}
+use lib.Seq.{drop-cons, ext-getD}
+use borrow.Author.Tests.{eq-eqb, ne-eqb, eqb-true, eqb-false, leb-true, leb-false}
 use Rattle.apportionment.specs.Lists.{sum, sameList, countBelow, listOf}
 use Rattle.apportionment.specs.inner.Tests.{cond-both, either-way}
 
@@ -54,6 +54,22 @@ same-list-equal (x ∷ xs) (y ∷ ys) e =
     either-way (eqb x y)
     (λ same. rw (eqb-true x y same, same-list-equal xs ys (rw same at e)))
     (λ differ. absurd (false≢true (rw differ at e)))
+
+-- ---- two lists compared place by place
+
+pub same-next : (xs ys : List ℕ) (i : ℕ) → i < length xs → i < length ys → getD xs i 0 ≡ getD ys i 0
+    → sameList (drop i xs) (drop i ys) ≡ sameList (drop (i + 1) xs) (drop (i + 1) ys)
+unfolding sameList
+same-next xs ys i h k e = rw (drop-cons xs i 0 h, drop-cons ys i 0 k, add-one i, eq-eqb _ _ e)
+
+pub differ-found : (xs ys : List ℕ) (i : ℕ) → i < length xs → i < length ys → (getD xs i 0 ≡ getD ys i 0 → ⊥)
+    → sameList (drop i xs) (drop i ys) ≡ false
+unfolding sameList
+differ-found xs ys i h k apart = rw (drop-cons xs i 0 h, drop-cons ys i 0 k, ne-eqb _ _ apart)
+
+pub same-to-the-end : (xs ys : List ℕ) (i : ℕ) → length xs ≤ i → length ys ≤ i → sameList (drop i xs) (drop i ys) ≡ true
+unfolding sameList
+same-to-the-end xs ys i h k = rw (drop-of-length-le xs h, drop-of-length-le ys k)
 
 -- ---- lists made of a function
 

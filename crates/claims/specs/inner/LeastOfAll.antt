@@ -1,6 +1,6 @@
 -- Document 01, "Leximin", as a theorem: the leximin allotment for a total has the least list of all with that total and, where several have
--- it, more seats at the first state where they differ. It holds for every total with a seat for each state, passed by stepping or not;
--- the claim about stepping (`crates/placing/proofs/Claim.antt`) cites it for the seats that stand.
+-- it, more seats at the first state where they differ. It holds for every total with a seat for each state, passed on the way or not;
+-- the claim about moves (`crates/placing/proofs/Claim.antt`) cites it for the seats that stand.
 -- Assumes nothing.
 use mathlib.Core.Path.{_≡_}
 use mathlib.Core.Bool.{true, false}

@@ -4,8 +4,8 @@
 use mathlib.Core.Path.{_≡_, sym, _∙_}
 use mathlib.Core.Bool.{true, false, cond}
 use mathlib.Core.List.{List}
-use Prim.Native.Nat.{ℕ, suc, _+_, _<_, _≤_}
-use native.Mathlib.Nat.{le-refl, le-of-lt}
+use Prim.Native.Nat.{ℕ, _+_, _<_, _≤_}
+use native.Mathlib.Nat.{le-refl}
 use native.Mathlib.Omega.{arith}
 use lib.Dec.{ltb}
 use lib.ListN.{length, getD}
@@ -15,7 +15,7 @@ use Rattle.apportionment.specs.inner.Lists.{sum-listOf-one}
 use Rattle.apportionment.specs.inner.Tests.{either-way}
 use Rattle.apportionment.specs.Quantities.{distance}
 use Rattle.apportionment.specs.Leximin.{startSeats, startTotal, gap, totalAfter, leximinFor}
-use Rattle.claims.specs.inner.Order.{Standing, placed, placedTimes, withdrawn, withdrawnTimes, endsApart}
+use Rattle.claims.specs.inner.Order.{Standing, placedTimes, withdrawnTimes, endsApart}
 use Rattle.claims.specs.inner.Standing.{placedTimes-standing, sum-placedTimes, withdrawnTimes-standing, sum-withdrawnTimes}
 use Rattle.claims.specs.inner.Standing.{ends-standing, standing-ends}
 use Rattle.claims.specs.inner.SizeClaims.{sizeTest, oneEach, Positive}
@@ -23,13 +23,6 @@ use Rattle.claims.specs.inner.SizeOrder.{size-order}
 use Rattle.claims.specs.inner.Optimal.{standing-leximin}
 use Rattle.claims.specs.inner.StartSeats.{start-standing}
 use Rattle.claims.specs.inner.StartBounds.{states-at-most-standing, states-at-most-start}
-
--- One step from seats xs.
-unfoldable pub lexStep : (ps : List ℕ) (H : ℕ) → List ℕ → List ℕ
-lexStep ps H xs =
-    cond (ltb (startTotal ps H) H)
-    (placed (sizeTest ps H) (length ps) xs)
-    (withdrawn oneEach (sizeTest ps H) (length ps) xs)
 
 -- The seats after m steps from the start.
 unfoldable pub lexMoved : (ps : List ℕ) (H m : ℕ) → List ℕ
@@ -42,11 +35,6 @@ lexMoved ps H m =
 pub no-step-made : (ps : List ℕ) (H : ℕ) → lexMoved ps H 0 ≡ startSeats ps H
 unfolding lexMoved placedTimes withdrawnTimes
 no-step-made ps H = either-way (ltb (startTotal ps H) H) (λ up. rw up) (λ down. rw down)
-
--- One step more is the next move.
-pub one-step-more : (ps : List ℕ) (H m : ℕ) → lexMoved ps H (suc m) ≡ lexStep ps H (lexMoved ps H m)
-unfolding lexMoved lexStep placedTimes withdrawnTimes
-one-step-more ps H m = either-way (ltb (startTotal ps H) H) (λ up. rw up) (λ down. rw down)
 
 -- ---- the total after each step
 
@@ -94,10 +82,6 @@ module _ {ps : List ℕ} {H : ℕ} (s : Positive ps H) (fits : length ps ≤ H) 
   -- The seats after m steps are the leximin allotment for their total.
   pub moved-leximin : (m : ℕ) → m ≤ gap ps H → lexMoved ps H m ≡ leximinFor ps H (totalAfter ps H m)
   moved-leximin m h = rw (← moved-total m h) (sym (standing-leximin s (moved-standing m h)))
-
-  -- A step takes one leximin allotment to the next.
-  pub step-leximin : (m : ℕ) → m < gap ps H → lexStep ps H (leximinFor ps H (totalAfter ps H m)) ≡ leximinFor ps H (totalAfter ps H (suc m))
-  step-leximin m h = cc (moved-leximin m (le-of-lt h), moved-leximin (suc m) h, one-step-more ps H m)
 
   -- As many steps as the gap give the leximin allotment of the house.
   pub last-step-leximin : lexMoved ps H (gap ps H) ≡ leximinFor ps H H

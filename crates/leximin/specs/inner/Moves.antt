@@ -1,6 +1,6 @@
 -- What the moves ask, and that it holds again after a move.
 -- Assumes nothing.
-use mathlib.Core.Path.{_≡_, refl, _∙_, subst}
+use mathlib.Core.Path.{_≡_, refl, sym, _∙_, ap, subst}
 use mathlib.Core.Bool.{Bool, true, false, cond}
 use mathlib.Core.List.{List}
 use mathlib.Core.Logic.{⊎-elim}
@@ -48,11 +48,12 @@ abbrev pub Room : (up : Bool) (n : ℕ) (xs : List ℕ) (times : ℕ) → Type 0
 Room true n xs times = sum xs + times ≤ houseLimit
 Room false n xs times = n + times ≤ sum xs
 
--- The start of a problem, of which so many seats can be moved.
+-- Seats some moves from the start of a problem, of which so many more can be moved.
 pub record Movable (up : Bool) (ps : List ℕ) (P H : ℕ) (xs : List ℕ) (times : ℕ) : Type 0 where
   pub problem : Problem ps P H
-  pub begun : xs ≡ startSeats ps H
-  pub room : Room up (length ps) xs times
+  pub made : ℕ
+  pub begun : xs ≡ movedTimes up ps H (startSeats ps H) made
+  pub room : Room up (length ps) (startSeats ps H) (made + times)
 
 -- Placing takes no seat from a state.
 placed-at-least : (lt : ClaimTest) (n : ℕ) (xs : List ℕ) → 0 < n → length xs ≡ n → (k i : ℕ)
@@ -107,11 +108,45 @@ module _ {ps : List ℕ} {P H : ℕ} (problem : Problem ps P H) where
       (withdrawnTimes-standing n oneEach lt (size-order s) start k (s .someState) (start-standing s) (rw (sum-listOf-one n) room) .least)
       (withdrawn-at-most oneEach lt n start k)
 
+pub none-moved : (up : Bool) (ps : List ℕ) (H : ℕ) (xs : List ℕ) → xs ≡ movedTimes up ps H xs 0
+unfolding movedTimes placedTimes withdrawnTimes
+none-moved true ps H xs = refl
+none-moved false ps H xs = refl
+
+pub one-more-moved : (up : Bool) (ps : List ℕ) (H : ℕ) (xs : List ℕ) (k : ℕ)
+    → movedTimes up ps H xs (k + 1) ≡ movedOnce up ps H (movedTimes up ps H xs k)
+unfolding movedTimes movedOnce placedTimes withdrawnTimes
+one-more-moved true ps H xs k = rw (add-one k)
+one-more-moved false ps H xs k = rw (add-one k)
+
+-- So many moves and then so many more are the moves of the sum.
+pub moved-again : (up : Bool) (ps : List ℕ) (H : ℕ) (xs : List ℕ) (j k : ℕ)
+    → movedTimes up ps H (movedTimes up ps H xs j) k ≡ movedTimes up ps H xs (j + k)
+moved-again up ps H xs j zero = sym (none-moved up ps H (movedTimes up ps H xs j)) ∙ ap (movedTimes up ps H xs) (omega arith)
+moved-again up ps H xs j (suc k) =
+    let moved : ℕ → List ℕ = movedTimes up ps H xs in
+    ap (movedTimes up ps H (moved j)) (omega arith)
+    ∙ one-more-moved up ps H (moved j) k
+    ∙ ap (movedOnce up ps H) (moved-again up ps H xs j k)
+    ∙ sym (one-more-moved up ps H xs (j + k))
+    ∙ ap moved (omega arith)
+
+from-start-sided : {ps : List ℕ} {P H : ℕ} (up : Bool) → Problem ps P H → (k : ℕ) → Room up (length ps) (startSeats ps H) k
+    → Sided up ps P H (movedTimes up ps H (startSeats ps H) k)
+unfolding movedTimes
+from-start-sided true problem k room = placed-sided problem k room
+from-start-sided false problem k room = withdrawn-sided problem k room
+
+-- Fewer seats need no more room.
+room-for-fewer : (up : Bool) (n : ℕ) (xs : List ℕ) {k times : ℕ} → k ≤ times → Room up n xs times → Room up n xs k
+room-for-fewer true n xs h room = omega (arith, h, room)
+room-for-fewer false n xs h room = omega (arith, h, room)
+
 pub moved-sided : {ps xs : List ℕ} {P H times : ℕ} (up : Bool) → Movable up ps P H xs times → (k : ℕ) → k ≤ times
     → Sided up ps P H (movedTimes up ps H xs k)
-unfolding movedTimes
-moved-sided true m k h = rw (m .begun) (placed-sided (m .problem) k (omega (arith, rw (m .begun) at (m .room))))
-moved-sided false m k h = rw (m .begun) (withdrawn-sided (m .problem) k (omega (arith, rw (m .begun) at (m .room))))
+moved-sided {ps} {xs} {P} {H} up m k h =
+    rw (m .begun, moved-again up ps H (startSeats ps H) (m .made) k)
+    (from-start-sided up (m .problem) (m .made + k) (room-for-fewer up (length ps) (startSeats ps H) (omega (arith, h)) (m .room)))
 
 -- ---- moves by a tournament
 
@@ -120,19 +155,8 @@ pub record Moving (up : Bool) (ps xs₀ : List ℕ) (H done : ℕ) (xs t : List 
   pub seats : xs ≡ movedTimes up ps H xs₀ done
   pub winners : Champions up ps H xs t
 
-pub none-moved : (up : Bool) (ps : List ℕ) (H : ℕ) (xs : List ℕ) → xs ≡ movedTimes up ps H xs 0
-unfolding movedTimes placedTimes withdrawnTimes
-none-moved true ps H xs = refl
-none-moved false ps H xs = refl
-
 pub movable-sided : {up : Bool} {ps xs : List ℕ} {P H times : ℕ} → Movable up ps P H xs times → Sided up ps P H xs
 movable-sided {up} {ps} {xs} {P} {H} m = rw (none-moved up ps H xs) (moved-sided up m 0 zero-le)
-
-pub one-more-moved : (up : Bool) (ps : List ℕ) (H : ℕ) (xs : List ℕ) (k : ℕ)
-    → movedTimes up ps H xs (k + 1) ≡ movedOnce up ps H (movedTimes up ps H xs k)
-unfolding movedTimes movedOnce placedTimes withdrawnTimes
-one-more-moved true ps H xs k = rw (add-one k)
-one-more-moved false ps H xs k = rw (add-one k)
 
 -- A move is one by the state that a scan picks.
 moved-by-first : (up : Bool) (ps : List ℕ) (H : ℕ) (xs : List ℕ)

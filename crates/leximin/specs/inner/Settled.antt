@@ -14,11 +14,10 @@ use Rattle.apportionment.specs.Leximin.{leximinFor, startSeats, startTotal, gap
 use Rattle.claims.specs.inner.Order.{placedTimes, withdrawnTimes, endsApart, comes, firstUnmet, lastMet}
 use Rattle.claims.specs.inner.SizeClaims.{problem-positive, sizeTest, oneEach}
 use Rattle.claims.specs.inner.LeximinSteps.{lexMoved, last-step-leximin}
-use Rattle.problem.specs.inner.Total.{cappedTotal, total-is-sum}
 use Rattle.sizes.specs.inner.Sizes.{ClaimIs, lessClaim}
 use Rattle.leximin.specs.inner.Scan.{Seated, claims-compared}
-use Rattle.leximin.specs.inner.Start.{start-total-fits}
-use Rattle.leximin.specs.inner.Moves.{movedTimes, Movable}
+use Rattle.leximin.specs.inner.Start.{Begun}
+use Rattle.leximin.specs.inner.Moves.{movedTimes, none-moved, Movable}
 use Rattle.sizes.specs.declared.Claim.{Claim}
 
 -- What filling hands back: the leximin allotment of the house, and the gap between the start and the house.
@@ -27,11 +26,6 @@ pub record Settled (ps : List ℕ) (H : ℕ) (xs : List ℕ) (made : ℕ) : Type
   pub steps : made ≡ gap ps H
 
 module _ {ps : List ℕ} {P H : ℕ} (problem : Problem ps P H) where
-  -- The starting total as it is added up.
-  start-added : {xs : List ℕ} {start : ℕ} → xs ≡ startSeats ps H → start ≡ cappedTotal xs → start ≡ startTotal ps H
-  unfolding startTotal
-  start-added e t = t ∙ rw e (total-is-sum (startSeats ps H) (start-total-fits problem))
-
   -- Below the house the gap is what is placed, and otherwise what is withdrawn.
   gap-up : startTotal ps H < H → gap ps H ≡ H - startTotal ps H
   unfolding gap distance
@@ -51,17 +45,32 @@ module _ {ps : List ℕ} {P H : ℕ} (problem : Problem ps P H) where
   unfolding lexMoved
   moved-down fits h = rw (le-ltb _ _ h, lexMoved) at (last-step-leximin (problem-positive problem) fits)
 
-  module _ {xs : List ℕ} {start : ℕ} (begun : xs ≡ startSeats ps H) (added : start ≡ cappedTotal xs) where
+  module _ {xs : List ℕ} {start : ℕ} (b : Begun ps H xs start) where
+    begun : xs ≡ startSeats ps H
+    begun = b .seats
+
     total : start ≡ startTotal ps H
-    total = start-added begun added
+    total = b .total
 
     pub can-place : start < H → Movable true ps P H xs (H - start)
     unfolding startTotal
-    can-place h = rw begun (record { problem = problem; begun = refl; room = omega (arith, total, problem .houseWithin) })
+    can-place h =
+        record {
+          problem = problem;
+          made = 0;
+          begun = begun ∙ none-moved true ps H (startSeats ps H);
+          room = omega (arith, total, problem .houseWithin);
+        }
 
     pub can-withdraw : length ps ≤ H → H ≤ start → Movable false ps P H xs (start - H)
     unfolding startTotal
-    can-withdraw fits h = rw begun (record { problem = problem; begun = refl; room = omega (arith, total) })
+    can-withdraw fits h =
+        record {
+          problem = problem;
+          made = 0;
+          begun = begun ∙ none-moved false ps H (startSeats ps H);
+          room = omega (arith, total);
+        }
 
     pub placed-settled : {ys : List ℕ} → length ps ≤ H → start < H → ys ≡ movedTimes true ps H xs (H - start)
         → Settled ps H ys (H - start)

@@ -1,12 +1,15 @@
 -- `placing::started_placing` meets its contract: the populations and the start's seats are laid over zeros, which is what filling up a
 -- list means.
 -- Assumes nothing.
-use mathlib.Core.Path.{refl, sym}
+use mathlib.Core.Path.{refl, sym, ap}
 use lib.Seq.{length-take-le}
+use Rattle.apportionment.specs.Refusals.{accepted}
 use Rattle.claims.specs.inner.StartSeats.{length-start}
 use Rattle.placing.specs.Placing.{started}
 use Rattle.placing.specs.inner.Lists.{laid-over-zeros}
 use Rattle.placing.specs.inner.Telling.{record-equal}
+use Rattle.placing.specs.declared.Placing.{Placing}
+use Rattle.placing.specs.declared.Placed.{Placed}
 use borrow.Author.Needs.{needs}
 use Rattle.placing.proofs.started_placing.Statement.{statement}
 use Rattle.placing.proofs.started_placing.Tie as tie
@@ -33,17 +36,16 @@ fill-start-requires c κs =
     let start = c .before .before .before .before .before in
     record { problem = start .pre; sameLength = length-take-le _ _ (start .pre .states .statesWithin) }
 
-start-total-requires : tie.Need-start-total-requires
-start-total-requires c κs = search needs
-
 returns : tie.Need-returns
 unfolding started
 returns c =
-    let at-fill-start = c .before .before in
+    let at-fill-start = c .before in
     let at-copy-into = at-fill-start .before .before .before in
-    record-equal refl
-    (laid-over-zeros _ _ _ (at-copy-into .copy-into .ensures) refl) refl
-    (laid-over-zeros _ _ _ (at-fill-start .fill-start .ensures) (length-start _ _)) (c .start-total .ensures) refl
+    let begun = at-fill-start .fill-start .ensures in
+    let opened : Placing → Placed = λ p. record { refusal = accepted; placing = p } in
+    ap opened
+    (record-equal refl (laid-over-zeros _ _ _ (at-copy-into .copy-into .ensures) refl) refl
+    (laid-over-zeros _ _ _ (begun .seats) (length-start _ _)) (begun .total) refl)
 
 pub started-placing-spec : {M : Type 1} → statement M
 started-placing-spec =
@@ -55,5 +57,4 @@ started-placing-spec =
     array-borrow-prefix-seats
     slice-aggregate-fill-start
     fill-start-requires
-    start-total-requires
     returns)

@@ -1,7 +1,7 @@
 -- How a genuine placing is told: by tests of its steps, its total and its seats that need no replay. A placing passes them exactly if it
 -- is the one that its steps give.
 -- Assumes nothing.
-use mathlib.Core.Path.{_≡_, refl, sym, _∙_}
+use mathlib.Core.Path.{_≡_, refl, sym, _∙_, ap}
 use mathlib.Core.Bool.{Bool, true, false, false≢true, _&&_}
 use mathlib.Core.Logic.{⊎-elim}
 use mathlib.Core.List.{List, [], _∷_}
@@ -9,11 +9,11 @@ use Prim.Native.Nat.{ℕ, zero, suc, zero-le, suc-le-suc, _+_, _-_, _<_, _≤_}
 use native.Mathlib.Omega.{arith}
 use native.Mathlib.Nat.{le-trans, le-of-suc-le-suc, not-suc-le-zero}
 use lib.Dec.{ltb, leb, eqb}
-use borrow.Author.Tests.{lt-ltb, le-ltb, ltb-true, eq-eqb, eqb-true}
+use borrow.Author.Tests.{lt-ltb, le-ltb, ltb-true, eq-eqb, eqb-true, le-leb}
 use lib.ListN.{length, getD, List·getD-eq-default}
 use Rattle.apportionment.specs.Limits.{houseLimit, sumLimit}
-use Rattle.apportionment.specs.Lists.{sum}
-use Rattle.apportionment.specs.inner.Lists.{entry-at-most-sum}
+use Rattle.apportionment.specs.Lists.{sum, sameList}
+use Rattle.apportionment.specs.inner.Lists.{entry-at-most-sum, same-list-self, same-list-equal}
 use Rattle.apportionment.specs.inner.Tests.{either-way}
 use Rattle.apportionment.specs.inner.Problem.{Problem, Fillable}
 use Rattle.apportionment.specs.Checks.{within}
@@ -23,7 +23,8 @@ use Rattle.apportionment.specs.Leximin.{leximinFor, startSeats, startTotal, gap
 use Rattle.claims.specs.inner.Order.{Standing, endsApart}
 use Rattle.claims.specs.inner.SizeClaims.{Positive, problem-positive, sizeTest, oneEach}
 use Rattle.claims.specs.inner.DivisorSeats.{withdrawn-at-most}
-use Rattle.claims.specs.inner.LeximinSteps.{lexMoved, moved-leximin, moved-standing, moved-total, leximin-ends-apart, ends-apart-leximin}
+use Rattle.claims.specs.inner.LeximinSteps.{lexMoved, no-step-made, moved-leximin, moved-standing, moved-total}
+use Rattle.claims.specs.inner.LeximinSteps.{leximin-ends-apart, ends-apart-leximin}
 use Rattle.claims.specs.inner.SizeShape.{le-or-lt}
 use Rattle.problem.specs.inner.Total.{cappedTotal, total-is-sum, total-past-limit}
 use Rattle.leximin.specs.inner.Scan.{Seated}
@@ -42,6 +43,10 @@ stepsAgree ps H total steps = leb steps (gap ps H) && eqb total (totalAfter ps H
 unfoldable pub seatsAgree : (ps xs : List ℕ) (H total : ℕ) → Bool
 seatsAgree ps xs H total =
     eqb (cappedTotal xs) total && eachWithin H xs && endsApart oneEach (sizeTest ps H) (length ps) xs
+
+-- The steps, the total and the seats agree.
+unfoldable pub agreeing : (ps xs : List ℕ) (H total steps : ℕ) → Bool
+agreeing ps xs H total steps = stepsAgree ps H total steps && seatsAgree ps xs H total
 
 -- ---- the steps
 
@@ -96,13 +101,6 @@ seats-seated {ps} {xs} {P} {H} f e =
     at-most i =
         ⊎-elim (λ h. rw (List·getD-eq-default xs 0 {n = i} h) (omega arith))
         (λ h. le-trans (each-within-at H xs e i h .1) (f .problem .houseWithin)) (le-or-lt (length xs) i)
-
--- Seats that agree are within the house.
-pub agreed-within : (ps xs : List ℕ) (H total : ℕ) → seatsAgree ps xs H total ≡ true → eachWithin H xs ≡ true
-unfolding seatsAgree
-agreed-within ps xs H total e =
-    and-both (eqb (cappedTotal xs) total) (eachWithin H xs)
-    (and-both (eqb (cappedTotal xs) total && eachWithin H xs) (endsApart oneEach (sizeTest ps H) (length ps) xs) e .0) .1
 
 -- ---- the leximin allotment passes the tests of seats
 
@@ -168,3 +166,49 @@ agreed-seats {ps} {xs} {P} {H} {total} problem fits m few same whole e =
     capped-sum ys c =
         ⊎-elim (λ h. sym (total-is-sum ys h) ∙ c)
         (λ h. omega (arith, total-past-limit ys h, c, whole, total-fits problem fits m few)) (le-or-lt (sum ys) sumLimit)
+
+-- ---- a placing just opened
+
+-- Two tests that pass together are one.
+same-test : (a b : Bool) → (a ≡ true → b ≡ true) → (b ≡ true → a ≡ true) → a ≡ b
+same-test true b to from = sym (to refl)
+same-test false b to from = either-way b (λ e. from e ∙ sym e) (λ e. sym e)
+
+agreed-total : (ps xs : List ℕ) (H total : ℕ) → seatsAgree ps xs H total ≡ true → cappedTotal xs ≡ total
+unfolding seatsAgree
+agreed-total ps xs H total e =
+    eqb-true _ _ (and-both (eqb (cappedTotal xs) total) _ (and-both (eqb (cappedTotal xs) total && eachWithin H xs) _ e .0) .0)
+
+-- With no step made, the steps, the total and the seats agree exactly if the seats are the start's and the total is theirs.
+pub agreeing-at-start : {ps xs : List ℕ} {P H : ℕ} → Fillable ps P H xs → length ps ≤ H → (total : ℕ)
+    → (sameList xs (startSeats ps H) && eqb (cappedTotal xs) total) ≡ agreeing ps xs H total 0
+unfolding agreeing stepsAgree
+agreeing-at-start {ps} {xs} {P} {H} f fits total = same-test _ _ to from
+  where
+    begun : ℕ
+    begun = totalAfter ps H 0
+
+    start-is-leximin : startSeats ps H ≡ leximinFor ps H begun
+    start-is-leximin = sym (no-step-made ps H) ∙ moved-leximin (problem-positive (f .problem)) fits 0 zero-le
+
+    agreed : seatsAgree ps (leximinFor ps H begun) H begun ≡ true
+    agreed = lex-agrees (f .problem) fits 0 zero-le
+
+    to : (sameList xs (startSeats ps H) && eqb (cappedTotal xs) total) ≡ true
+        → ((leb 0 (gap ps H) && eqb total begun) && seatsAgree ps xs H total) ≡ true
+    to e =
+        let both = and-both (sameList xs (startSeats ps H)) (eqb (cappedTotal xs) total) e in
+        let lex : xs ≡ leximinFor ps H begun = same-list-equal _ _ (both .0) ∙ start-is-leximin in
+        let whole : total ≡ begun = sym (eqb-true _ _ (both .1)) ∙ ap cappedTotal lex ∙ agreed-total ps _ H begun agreed in
+        rw (le-leb 0 (gap ps H) zero-le, eq-eqb total begun whole)
+        (ap (seatsAgree ps xs H) whole ∙ ap (λ (l : List ℕ). seatsAgree ps l H begun) lex ∙ agreed)
+
+    from : ((leb 0 (gap ps H) && eqb total begun) && seatsAgree ps xs H total) ≡ true
+        → (sameList xs (startSeats ps H) && eqb (cappedTotal xs) total) ≡ true
+    from e =
+        let both = and-both (leb 0 (gap ps H) && eqb total begun) (seatsAgree ps xs H total) e in
+        let whole = eqb-true total begun (and-both (leb 0 (gap ps H)) (eqb total begun) (both .0) .1) in
+        let lex = agreed-seats (f .problem) fits 0 zero-le (f .sameLength) whole (both .1) in
+        let same : sameList xs (startSeats ps H) ≡ true =
+        ap (λ (l : List ℕ). sameList l (startSeats ps H)) (lex ∙ sym start-is-leximin) ∙ same-list-self (startSeats ps H) in
+        rw same (eq-eqb _ _ (agreed-total ps xs H total (both .1)))

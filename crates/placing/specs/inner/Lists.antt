@@ -4,12 +4,14 @@ use mathlib.Core.Path.{_≡_, refl, sym, _∙_, ap}
 use mathlib.Core.Bool.{Bool, true, false, false≢true, cond, _&&_}
 use mathlib.Core.List.{List, [], _∷_, _++_}
 use Prim.Native.Nat.{ℕ, zero, suc, _+_, _-_, _<_, _≤_}
+use native.Mathlib.Omega.{arith}
 use native.Mathlib.Numerals.{add-one}
 use native.Mathlib.Nat.{sub-zero, zero-sub, suc-sub-suc}
 use lib.Dec.{eqb}
 use lib.ListN.{length, getD, take, drop, replicate, take-append-drop, length-drop, drop-of-length-le}
 use lib.Seq.{drop-cons, length-take-le, take-append-seam, drop-append-seam}
-use borrow.Author.Tests.{eqb-true}
+use lib.Bits.{bitOr, or-zero-l, or-add-and, and-le-r}
+use borrow.Author.Tests.{eqb-true, eqb-false, ne-eqb}
 use Rattle.apportionment.specs.Limits.{stateLimit}
 use Rattle.apportionment.specs.inner.Tests.{either-way}
 use Rattle.apportionment.specs.Checks.{within}
@@ -27,17 +29,23 @@ eachWithin limit (x ∷ xs) = cond (within limit x) (eachWithin limit xs) false
 
 -- ---- the tests, one place at a time
 
-pub zeros-step : (clear : Bool) (xs : List ℕ) (i : ℕ) → i < length xs
-    → (clear && allZero (drop i xs)) ≡ ((clear && eqb (getD xs i 0) 0) && allZero (drop (i + 1) xs))
-unfolding allZero
-zeros-step false xs i h = refl
-zeros-step true xs i h =
-    rw (drop-cons xs i 0 h, add-one) (either-way (eqb (getD xs i 0) 0) (λ none. rw none) (λ some. rw some))
+-- Two numbers joined bit by bit are 0 exactly if both are.
+joined-zero : (x y : ℕ) → eqb (bitOr x y) 0 ≡ (eqb x 0 && eqb y 0)
+joined-zero x y =
+    either-way (eqb x 0)
+    (λ none. rw (none, eqb-true x 0 none, or-zero-l y))
+    (λ some. rw some (ne-eqb (bitOr x y) 0 (λ e. eqb-false x 0 some (omega (arith, or-add-and x y, and-le-r x y, e)))))
 
-pub zeros-end : (clear : Bool) (xs : List ℕ) (i : ℕ) → length xs ≤ i → (clear && allZero (drop i xs)) ≡ clear
+pub zeros-step : (joined : ℕ) (xs : List ℕ) (i : ℕ) → i < length xs
+    → (eqb joined 0 && allZero (drop i xs)) ≡ (eqb (bitOr joined (getD xs i 0)) 0 && allZero (drop (i + 1) xs))
 unfolding allZero
-zeros-end true xs i h = rw drop-of-length-le
-zeros-end false xs i h = refl
+zeros-step joined xs i h =
+    rw (drop-cons xs i 0 h, add-one, joined-zero joined (getD xs i 0))
+    (either-way (eqb joined 0) (λ none. rw none (either-way (eqb (getD xs i 0) 0) (λ e. rw e) (λ e. rw e))) (λ some. rw some))
+
+pub zeros-end : (joined : ℕ) (xs : List ℕ) (i : ℕ) → length xs ≤ i → (eqb joined 0 && allZero (drop i xs)) ≡ eqb joined 0
+unfolding allZero
+zeros-end joined xs i h = rw drop-of-length-le (either-way (eqb joined 0) (λ none. rw none) (λ some. rw some))
 
 pub within-next : (limit : ℕ) (xs : List ℕ) (i : ℕ) → i < length xs → within limit (getD xs i 0) ≡ true
     → eachWithin limit (drop i xs) ≡ eachWithin limit (drop (i + 1) xs)

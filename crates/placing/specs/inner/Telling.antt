@@ -1,15 +1,16 @@
--- A placing of full lists is genuine exactly if it passes the tests that the code makes.
+-- A placing of full lists is genuine exactly if it passes the tests that the code makes; and what a move gives of one that is, and of one
+-- that is not.
 -- Assumes nothing.
 use mathlib.Core.Path.{_≡_, refl, sym, _∙_, ap}
 use mathlib.Core.Bool.{true, false, false≢true}
 use mathlib.Core.List.{List}
-use Prim.Native.Nat.{ℕ, _≤_}
+use Prim.Native.Nat.{ℕ, _+_, _≤_}
 use lib.Dec.{leb, eqb}
 use lib.ListN.{length, take, drop}
 use lib.Seq.{length-take-le}
 use borrow.Author.Tests.{eq-eqb, eqb-true, le-leb, leb-true}
 use Rattle.apportionment.specs.Limits.{stateLimit}
-use Rattle.apportionment.specs.Refusals.{accepted}
+use Rattle.apportionment.specs.Refusals.{accepted, placingForeign}
 use Rattle.apportionment.specs.Lists.{sameList}
 use Rattle.apportionment.specs.inner.Lists.{same-list-self, same-list-equal}
 use Rattle.apportionment.specs.Leximin.{leximinFor, gap, totalAfter}
@@ -18,9 +19,9 @@ use Rattle.problem.specs.inner.Passed.{open-passed}
 use Rattle.problem.specs.inner.Total.{cappedTotal, total-is-sum}
 use Rattle.apportionment.specs.inner.Tests.{either-way}
 use Rattle.apportionment.specs.inner.Problem.{Problem}
-use Rattle.placing.specs.Placing.{padded, placingAt, peopleOf, samePlacing, genuine}
+use Rattle.placing.specs.Placing.{padded, placingAt, peopleOf, samePlacing, genuine, movable, movedOf}
 use Rattle.placing.specs.inner.Lists.{allZero, padded-first, take-padded, zeros-past-padded}
-use Rattle.placing.specs.inner.Genuine.{and-both, stepsAgree, seatsAgree, lex-states, lex-agrees, agreed-seats}
+use Rattle.placing.specs.inner.Genuine.{and-both, stepsAgree, seatsAgree, agreeing, lex-states, lex-agrees, agreed-seats}
 use Rattle.placing.specs.declared.Placing.{Placing}
 
 -- ---- placings that agree are equal
@@ -80,19 +81,30 @@ facts-genuine p g =
 
 -- ---- the tests
 
+-- A placing from what it holds.
+abbrev pub placingOf : (states house total steps : ℕ) (populations seats : List ℕ) → Placing
+placingOf states house total steps populations seats =
+    record { states = states; house = house; total = total; steps = steps; populations = populations; seats = seats }
+
 pub record Tested (p : Placing) : Type 0 where
   pub statesFit : p .states ≤ stateLimit
   pub opens : openRefusal (peopleOf p) (p .house) ≡ accepted
-  pub steps : stepsAgree (peopleOf p) (p .house) (p .total) (p .steps) ≡ true
-  pub seats : seatsAgree (peopleOf p) (take (p .states) (p .seats)) (p .house) (p .total) ≡ true
+  pub agrees : agreeing (peopleOf p) (take (p .states) (p .seats)) (p .house) (p .total) (p .steps) ≡ true
   pub peopleEnd : allZero (drop (p .states) (p .populations)) ≡ true
   pub seatsEnd : allZero (drop (p .states) (p .seats)) ≡ true
 
-steps-facts : (ps : List ℕ) (H total steps : ℕ) → stepsAgree ps H total steps ≡ true → (steps ≤ gap ps H) × (total ≡ totalAfter ps H steps)
-unfolding stepsAgree
-steps-facts ps H total steps e =
-    let both = and-both (leb steps (gap ps H)) (eqb total (totalAfter ps H steps)) e in
-    (leb-true _ _ (both .0), eqb-true _ _ (both .1))
+-- The steps are no more than the gap, the total is the one that they lead to, and the seats are leximin for it.
+pub record Agreed (ps xs : List ℕ) (H total steps : ℕ) : Type 0 where
+  pub few : steps ≤ gap ps H
+  pub reached : total ≡ totalAfter ps H steps
+  pub seats : seatsAgree ps xs H total ≡ true
+
+agreed-facts : (ps xs : List ℕ) (H total steps : ℕ) → agreeing ps xs H total steps ≡ true → Agreed ps xs H total steps
+unfolding agreeing stepsAgree
+agreed-facts ps xs H total steps e =
+    let all = and-both (stepsAgree ps H total steps) (seatsAgree ps xs H total) e in
+    let both = and-both (leb steps (gap ps H)) (eqb total (totalAfter ps H steps)) (all .0) in
+    record { few = leb-true _ _ (both .0); reached = eqb-true _ _ (both .1); seats = all .1 }
 
 own-states : (p : Placing) → length (p .populations) ≡ stateLimit → p .states ≤ stateLimit → length (peopleOf p) ≡ p .states
 unfolding peopleOf
@@ -106,7 +118,7 @@ placing-is p many people seats total = record-equal (sym many) people refl seats
 
 -- The placing that m steps give passes.
 placed-passes : (ps : List ℕ) (H m : ℕ) → openRefusal ps H ≡ accepted → m ≤ gap ps H → Tested (placingAt ps H m)
-unfolding placingAt peopleOf stepsAgree
+unfolding placingAt peopleOf agreeing stepsAgree
 placed-passes ps H m opens few =
     let o = open-passed ps H opens in
     let own : take (length ps) (padded ps) ≡ ps = take-padded ps in
@@ -115,9 +127,13 @@ placed-passes ps H m opens few =
     record {
       statesFit = o .problem .states .statesWithin;
       opens = rw own opens;
-      steps = rw (own, le-leb m (gap ps H) few, eq-eqb (totalAfter ps H m) (totalAfter ps H m) refl);
-      seats =
-          rw (own, sym (ap (λ (k : ℕ). take k (padded lex)) states) ∙ take-padded lex)
+      agrees =
+          rw (
+            own,
+            sym (ap (λ (k : ℕ). take k (padded lex)) states) ∙ take-padded lex,
+            le-leb m (gap ps H) few,
+            eq-eqb (totalAfter ps H m) (totalAfter ps H m) refl,
+          )
           (lex-agrees (o .problem) (o .seatForEach) m few);
       peopleEnd = zeros-past-padded ps;
       seatsEnd =
@@ -133,16 +149,16 @@ pub passing-genuine : (p : Placing) → length (p .populations) ≡ stateLimit �
 unfolding peopleOf
 passing-genuine p fullPeople fullSeats t =
     let o = open-passed (peopleOf p) (p .house) (t .opens) in
-    let agreed = steps-facts (peopleOf p) (p .house) (p .total) (p .steps) (t .steps) in
+    let agreed = agreed-facts (peopleOf p) (take (p .states) (p .seats)) (p .house) (p .total) (p .steps) (t .agrees) in
     let many : length (peopleOf p) ≡ p .states = own-states p fullPeople (t .statesFit) in
     let seats : take (p .states) (p .seats) ≡ leximinFor (peopleOf p) (p .house) (totalAfter (peopleOf p) (p .house) (p .steps)) =
-    agreed-seats (o .problem) (o .seatForEach) (p .steps) (agreed .0)
-    (length-take-le (p .states) (p .seats) (rw fullSeats (t .statesFit)) ∙ sym many) (agreed .1) (t .seats) in
+    agreed-seats (o .problem) (o .seatForEach) (p .steps) (agreed .few)
+    (length-take-le (p .states) (p .seats) (rw fullSeats (t .statesFit)) ∙ sym many) (agreed .reached) (agreed .seats) in
     record {
       opens = t .opens;
-      few = agreed .0;
+      few = agreed .few;
       is = placing-is p many (padded-first (p .populations) (p .states) fullPeople (t .statesFit) (t .peopleEnd))
-          (padded-first (p .seats) (p .states) fullSeats (t .statesFit) (t .seatsEnd) ∙ ap padded seats) (agreed .1);
+          (padded-first (p .seats) (p .states) fullSeats (t .statesFit) (t .seatsEnd) ∙ ap padded seats) (agreed .reached);
     }
 
 -- ---- as the code asks
@@ -165,11 +181,27 @@ same-first n xs ys x y h = length-take-le n xs (rw x h) ∙ sym (length-take-le 
 
 -- Once all other tests are passed, the last one decides.
 pub last-test : (p : Placing) → length (p .populations) ≡ stateLimit → length (p .seats) ≡ stateLimit → p .states ≤ stateLimit
-    → openRefusal (peopleOf p) (p .house) ≡ accepted → stepsAgree (peopleOf p) (p .house) (p .total) (p .steps) ≡ true
-    → seatsAgree (peopleOf p) (take (p .states) (p .seats)) (p .house) (p .total) ≡ true
+    → openRefusal (peopleOf p) (p .house) ≡ accepted
+    → agreeing (peopleOf p) (take (p .states) (p .seats)) (p .house) (p .total) (p .steps) ≡ true
     → allZero (drop (p .states) (p .populations)) ≡ true → allZero (drop (p .states) (p .seats)) ≡ genuine p
-last-test p fullPeople fullSeats few opens steps seats people =
+last-test p fullPeople fullSeats few opens agrees people =
     either-way (allZero (drop (p .states) (p .seats)))
     (λ e. e ∙ sym (facts-genuine p (passing-genuine p fullPeople fullSeats
-    (record { statesFit = few; opens = opens; steps = steps; seats = seats; peopleEnd = people; seatsEnd = e }))))
+    (record { statesFit = few; opens = opens; agrees = agrees; peopleEnd = people; seatsEnd = e }))))
     (λ e. e ∙ sym (not-genuine p (λ t. false≢true (sym e ∙ t .seatsEnd))))
+
+-- ---- what a move gives
+
+pub genuine-moved : (p : Placing) (k : ℕ) → Genuine p
+    → movedOf p k
+    ≡ record {
+      answer = record { refusal = accepted; moved = movable p k };
+      placing = placingAt (peopleOf p) (p .house) (p .steps + movable p k);
+    }
+unfolding movedOf
+genuine-moved p k g = rw (facts-genuine p g)
+
+pub foreign-moved : (p : Placing) (k : ℕ) → genuine p ≡ false
+    → movedOf p k ≡ record { answer = record { refusal = placingForeign; moved = 0 }; placing = p }
+unfolding movedOf
+foreign-moved p k e = rw e

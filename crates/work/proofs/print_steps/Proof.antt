@@ -1,6 +1,6 @@
 -- `work::print_steps` meets its contract. The loop's invariant: the placing is the one so many steps from the start, no more than the house
--- is away. So each step that is not refused can be shown, the first one refused stands at the house, and the loop never runs out before
--- that; the measure is the turns that are left.
+-- is away. So each move that was made can be shown, the first that was not stands at the house, and the loop never runs out before that;
+-- the measure is the turns that are left.
 -- Assumes nothing.
 use mathlib.Core.Bool.{false≢true}
 use borrow.Author.Needs.{needs}
@@ -8,7 +8,7 @@ use mathlib.Core.Path.{_≡_}
 use Prim.Native.Nat.{_≤_, _-_}
 use native.Mathlib.Omega.{arith}
 use Rattle.apportionment.specs.Limits.{stateLimit}
-use Rattle.work.specs.inner.Way.{onTheWay, wayOf, step-shown, short-way, step-goes-on, step-at-end}
+use Rattle.work.specs.inner.Way.{onTheWay, wayOf, step-shown, short-way, move-goes-on, move-at-end}
 use Rattle.work.proofs.print_steps.Statement.{statement}
 use Rattle.work.proofs.print_steps.Tie as tie
 
@@ -21,21 +21,22 @@ abbrev μ-loop : tie.MeasureT-loop
 loop-holds : tie.Need-loop-holds Inv-loop μ-loop
 loop-holds c = (c .before .pre .first, search needs)
 
-step-requires : tie.Need-step-requires Inv-loop μ-loop
-step-requires c κs = search needs
+moved-on-requires : tie.Need-moved-on-requires Inv-loop μ-loop
+moved-on-requires c κs = search needs
 
 returns : tie.Need-returns Inv-loop μ-loop
 returns c =
-    let turn = c .before .before .before .before in
+    let at-moved-on = c .before .before .before in
+    let turn = at-moved-on .before .before in
     let begun = turn .before .before .pre in
-    λ _. step-at-end begun (turn .loop .inv .0) (turn .loop .inv .1) (c .before .before .step .ensures) (c .if1 .taken)
+    λ _. move-at-end begun (turn .loop .inv .0) (turn .loop .inv .1) (at-moved-on .moved-on .ensures) (c .if1 .taken)
 
 print-move-requires : tie.Need-print-move-requires Inv-loop μ-loop
 print-move-requires c κs =
-    let turn = c .before .before .before .before .before in
+    let at-moved-on = c .before .before .before .before in
+    let turn = at-moved-on .before .before in
     let begun = turn .before .before .pre in
-    let stepped = c .before .before .before .step .ensures in
-    let on = step-goes-on begun (turn .loop .inv .0) (turn .loop .inv .1) stepped (c .before .if1 .left) in
+    let on = move-goes-on begun (turn .loop .inv .0) (turn .loop .inv .1) (at-moved-on .moved-on .ensures) (c .before .if1 .left) in
     step-shown begun _ (turn .loop .inv .0) (on .1) (on .0)
 
 add-made : tie.Need-add-made Inv-loop μ-loop
@@ -46,11 +47,11 @@ loop-less c = search needs
 
 loop-again : tie.Need-loop-again Inv-loop μ-loop
 loop-again c =
-    let stepped = c .before .before .before .before .before in
-    let turn = stepped .before .before in
+    let at-if1 = c .before .before .before in
+    let at-moved-on = at-if1 .before .before .before in
+    let turn = at-moved-on .before .before in
     let begun = turn .before .before .pre in
-    let accepts = c .before .before .before .if1 .left in
-    let on = step-goes-on begun (turn .loop .inv .0) (turn .loop .inv .1) (stepped .step .ensures) accepts in
+    let on = move-goes-on begun (turn .loop .inv .0) (turn .loop .inv .1) (at-moved-on .moved-on .ensures) (at-if1 .if1 .left) in
     (on .1, omega (arith, on .0))
 
 returns-2 : tie.Need-returns-2 Inv-loop μ-loop
@@ -66,7 +67,7 @@ print-steps-spec =
     Inv-loop
     μ-loop
     loop-holds
-    step-requires
+    moved-on-requires
     returns
     print-move-requires
     add-made

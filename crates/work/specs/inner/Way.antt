@@ -1,17 +1,16 @@
--- The way from the placing that opening gives to the house, which the program prints: stepping goes through it to its end, and every
+-- The way from the placing that opening gives to the house, which the program prints: moves by one seat go through it to its end, and every
 -- placing on it and every step between two of them can be shown, so that each block is written and fits its page.
 -- Assumes nothing.
 use mathlib.Core.Path.{_≡_, refl, sym, _∙_, ap}
 use mathlib.Core.List.{List}
-use Prim.Native.Nat.{ℕ, suc, _+_, _-_, _<_, _≤_}
-use native.Mathlib.Nat.{le-antisymm}
+use Prim.Native.Nat.{ℕ, _+_, _-_, _<_, _≤_, min}
 use native.Mathlib.Omega.{arith}
 use lib.Dec.{eqb, ltb}
 use lib.ListN.{length, getD, take}
 use lib.Seq.{length-take-le}
 use borrow.Author.Tests.{eqb-true, eqb-false, ltb-true, ltb-false}
 use Rattle.apportionment.specs.Limits.{stateLimit}
-use Rattle.apportionment.specs.Refusals.{accepted, houseReached}
+use Rattle.apportionment.specs.Refusals.{accepted}
 use Rattle.apportionment.specs.Lists.{sum}
 use Rattle.apportionment.specs.inner.Tests.{either-way}
 use Rattle.apportionment.specs.inner.Lists.{entry-at-most-sum}
@@ -30,12 +29,13 @@ use Rattle.register.specs.Names.{rowsOf, nameInRow}
 use Rattle.register.specs.inner.Sound.{ReadingSound, reading-sound}
 use Rattle.register.specs.inner.Rows.{nameLimit, name-limited}
 use Rattle.register.specs.declared.Reading.{Reading}
-use Rattle.placing.specs.Placing.{started, placingAt, openedOf, steppedOf, refusedWith, peopleOf}
+use Rattle.placing.specs.Placing.{started, placingAt, openedOf, movedOf, peopleOf}
 use Rattle.placing.specs.inner.Lists.{take-padded}
 use Rattle.placing.specs.inner.Genuine.{lex-within-house}
-use Rattle.placing.specs.inner.Walk.{own-people, start-is-first, step-before-house, step-at-house}
+use Rattle.placing.specs.inner.Walk.{own-people, start-is-first, moved-after}
 use Rattle.placing.specs.declared.Placing.{Placing}
 use Rattle.placing.specs.declared.Placed.{Placed}
+use Rattle.placing.specs.declared.MovedOn.{MovedOn}
 use Rattle.showing.specs.Work.{seatsIn, movedAt}
 use Rattle.showing.specs.inner.Work.{differ-at-a-place}
 use Rattle.showing.specs.inner.Showable.{totalLimit, Showable, ShowableStep}
@@ -174,34 +174,29 @@ module _ {rows : List ℕ} {start : Placing} {P : ℕ} (begun : Begun rows start
   pub short-way : wayOf start < stateLimit
   short-way = few-steps (peopleOf start) (start .house) (begun .opens) 0 (omega arith)
 
-  -- ---- stepping goes through it
+  -- ---- moving by one seat goes through it
 
-  module _ {p : Placing} {m : ℕ} {r : Placed} (is : p ≡ onTheWay start m) (few : m ≤ wayOf start) (stepped : r ≡ steppedOf p) where
-    before-the-house : m < wayOf start → r ≡ record { refusal = accepted; placing = onTheWay start (suc m) }
-    before-the-house left = stepped ∙ ap steppedOf is ∙ step-before-house (peopleOf start) (start .house) (begun .opens) m left
+  module _ {p : Placing} {m : ℕ} {r : MovedOn} (is : p ≡ onTheWay start m) (few : m ≤ wayOf start) (on : r ≡ movedOf p 1) where
+    moved-one : r
+        ≡ record {
+          answer = record { refusal = accepted; moved = min 1 (wayOf start - m) };
+          placing = onTheWay start (m + min 1 (wayOf start - m));
+        }
+    moved-one =
+        on ∙ ap (λ (q : Placing). movedOf q 1) is ∙ moved-after (peopleOf start) (start .house) (begun .opens) m 1 few
 
-    at-the-house : wayOf start ≤ m → r .refusal ≡ houseReached
-    unfolding refusedWith
-    at-the-house there =
-        let same : m ≡ wayOf start = le-antisymm few there in
-        ap (λ (x : Placed). x .refusal)
-        (stepped ∙ ap steppedOf (is ∙ ap (onTheWay start) same) ∙ step-at-house (peopleOf start) (start .house) (begun .opens))
+    moved-is : r .answer .moved ≡ min 1 (wayOf start - m)
+    moved-is = ap (λ (x : MovedOn). x .answer .moved) moved-one
 
-    -- A step that is not refused leads to the next placing ..
-    pub step-goes-on : r .refusal ≡ accepted → (m < wayOf start) × (r .placing ≡ onTheWay start (m + 1))
-    step-goes-on accepts =
-        either-way (ltb m (wayOf start))
-        (λ left.
-        let below = ltb-true m (wayOf start) left in
-        (below, ap (λ (x : Placed). x .placing) (before-the-house below) ∙ ap (onTheWay start) (omega arith)))
-        (λ there. absurd (omega (arith, accepts, at-the-house (ltb-false m (wayOf start) there))))
+    -- A move that was made leads to the next placing ..
+    pub move-goes-on : (r .answer .moved ≡ 0 → ⊥) → (m < wayOf start) × (r .placing ≡ onTheWay start (m + 1))
+    move-goes-on some =
+        let left : m < wayOf start = omega (arith, some, moved-is) in
+        (left, ap (λ (x : MovedOn). x .placing) moved-one ∙ ap (onTheWay start) (omega (arith, left)))
 
-    -- .. and one that is refused stands at the house.
-    pub step-at-end : (r .refusal ≡ accepted → ⊥) → p ≡ onTheWay start (wayOf start)
-    step-at-end refused =
-        either-way (ltb m (wayOf start))
-        (λ left. absurd (refused (ap (λ (x : Placed). x .refusal) (before-the-house (ltb-true m (wayOf start) left)))))
-        (λ there. is ∙ ap (onTheWay start) (le-antisymm few (ltb-false m (wayOf start) there)))
+    -- .. and where none was, the placing stands at the house.
+    pub move-at-end : r .answer .moved ≡ 0 → p ≡ onTheWay start (wayOf start)
+    move-at-end none = is ∙ ap (onTheWay start) (omega (arith, none, moved-is, few))
 
 -- ---- a register that opens begins it
 

@@ -4,25 +4,26 @@ use borrow.Author.Needs.{needs}
 use Prim.Native.Nat.{_-_}
 use mathlib.Core.Path.{_≡_, sym, _∙_}
 use mathlib.Core.Bool.{_&&_}
+use lib.Dec.{eqb}
 use lib.ListN.{length, drop}
 use Rattle.placing.specs.inner.Lists.{allZero, zeros-step, zeros-end}
 use Rattle.placing.proofs.lists.zeros_from.Statement.{statement}
 use Rattle.placing.proofs.lists.zeros_from.Tie as tie
 
 abbrev Inv-loop : tie.InvT-loop
-Inv-loop list n clear₀ i₀ clear i = allZero (drop n list) ≡ (clear && allZero (drop i list))
+Inv-loop list n joined₀ i₀ joined i = allZero (drop n list) ≡ (eqb joined 0 && allZero (drop i list))
 
 abbrev μ-loop : tie.MeasureT-loop
-μ-loop list n clear₀ i₀ clear i = length list - i
+μ-loop list n joined₀ i₀ joined i = length list - i
 
 loop-holds : tie.Need-loop-holds Inv-loop μ-loop
 loop-holds c = search needs
 
-mul-clear : tie.Need-mul-clear Inv-loop μ-loop
-mul-clear c = search needs
+mul-joined : tie.Need-mul-joined Inv-loop μ-loop
+mul-joined c = search needs
 
-shared-slice-read-clear : tie.Need-shared-slice-read-clear Inv-loop μ-loop
-shared-slice-read-clear c = search needs
+shared-slice-read-joined : tie.Need-shared-slice-read-joined Inv-loop μ-loop
+shared-slice-read-joined c = search needs
 
 add-i : tie.Need-add-i Inv-loop μ-loop
 add-i c = search needs
@@ -33,11 +34,11 @@ loop-less c = search needs
 loop-again : tie.Need-loop-again Inv-loop μ-loop
 loop-again c =
     c .before .before .loop .inv
-    ∙ zeros-step (c .before .before .loop .clear) (c .before .before .before .args .list .now) (c .before .before .loop .i)
+    ∙ zeros-step (c .before .before .loop .joined) (c .before .before .before .args .list .now) (c .before .before .loop .i)
     (c .before .loop-test .taken)
 
 returns : tie.Need-returns Inv-loop μ-loop
-returns c = sym (c .before .loop .inv ∙ zeros-end (c .before .loop .clear) _ _ (c .loop-test .left))
+returns c = sym (c .before .loop .inv ∙ zeros-end (c .before .loop .joined) _ _ (c .loop-test .left))
 
 pub zeros-from-spec : {M : Type 1} → statement M
 zeros-from-spec =
@@ -46,8 +47,8 @@ zeros-from-spec =
     Inv-loop
     μ-loop
     loop-holds
-    mul-clear
-    shared-slice-read-clear
+    mul-joined
+    shared-slice-read-joined
     add-i
     loop-less
     loop-again
