@@ -1,5 +1,6 @@
 /* The allotment program in C: reads a register from the file named on the command line, or from
-   standard input, and prints its listing or `refused,number,line`. From the repository's root:
+   standard input, and prints its listing or `refused,number,line`, and then on standard error what is
+   wrong and what to mend. From the repository's root:
 
        cc -std=c99 -Iinclude examples/desk.c target/staticlib/libdesk.a -o target/desk
        target/desk examples/hungary-counties.register
@@ -38,5 +39,8 @@ int main(int argc, char **argv)
         perror("standard output");
         return 2;
     }
+    if (written.refusal != 0)
+        fprintf(stderr, "What is wrong: %s.\nMend: %s.\n", desk_refusal_sentence(written.refusal),
+                desk_refusal_remedy(written.refusal));
     return written.refusal != 0;
 }

@@ -4,16 +4,27 @@
    looked at; what is lent is written only as its function says, and after a refusal it is as it was.
    An array that is written must not overlap any other array of the same call: the promises hold for
    arrays that lie apart, and one array lent as populations and as seats gives wrong seats. A placing
-   is lent alone, so that there is nothing for it to overlap. */
+   is lent alone, so that there is nothing for it to overlap. The header is for C99 and later and for
+   C++11 and later. */
 #ifndef DESK_H
 #define DESK_H
 
 #include <stddef.h>
 #include <stdint.h>
 
+#include "desk_refusals.h"
+
 #ifdef __cplusplus
 extern "C" {
 #endif
+
+/* The version of this interface. The first number rises where a program that was compiled with the
+   header of before would no longer work, and is the one in the shared library's name; the second where
+   something is added; the third otherwise. */
+#define DESK_VERSION "1.0.0"
+#define DESK_VERSION_MAJOR 1
+#define DESK_VERSION_MINOR 0
+#define DESK_VERSION_PATCH 0
 
 /* The most states, the largest house, the largest sum of populations, and the most bytes of a
    register. */
@@ -43,6 +54,49 @@ extern "C" {
 #define DESK_LISTING_STACK (200 * 1024)
 #define DESK_CLEAN_STACK (64 * 1024)
 #define DESK_NAME_STACK (30 * 1024)
+
+/* The refusals by name, DESK_REFUSED_TOTAL_DIFFERS and so on, from the list in desk_refusals.h; and 0,
+   where nothing was refused. A refusal is handed back as a uint64_t, since a later version may know
+   more of them. */
+enum {
+    DESK_ACCEPTED = 0,
+#define DESK_REFUSAL_(number, name, wrong, mend) DESK_REFUSED_##name = number,
+    DESK_REFUSALS(DESK_REFUSAL_)
+#undef DESK_REFUSAL_
+};
+
+/* A refusal in words: what is wrong, what to mend, and its name ("TOTAL_DIFFERS"). A number that is no
+   refusal of this version, 0 among them, has a general text and the name "UNKNOWN": never a null
+   pointer, so that the text can be printed as it comes. */
+static inline const char *desk_refusal_sentence(uint64_t refusal)
+{
+    switch (refusal) {
+#define DESK_REFUSAL_(number, name, wrong, mend) case number: return wrong;
+        DESK_REFUSALS(DESK_REFUSAL_)
+#undef DESK_REFUSAL_
+    default: return DESK_UNKNOWN_WRONG;
+    }
+}
+
+static inline const char *desk_refusal_remedy(uint64_t refusal)
+{
+    switch (refusal) {
+#define DESK_REFUSAL_(number, name, wrong, mend) case number: return mend;
+        DESK_REFUSALS(DESK_REFUSAL_)
+#undef DESK_REFUSAL_
+    default: return DESK_UNKNOWN_MEND;
+    }
+}
+
+static inline const char *desk_refusal_name(uint64_t refusal)
+{
+    switch (refusal) {
+#define DESK_REFUSAL_(number, name, wrong, mend) case number: return #name;
+        DESK_REFUSALS(DESK_REFUSAL_)
+#undef DESK_REFUSAL_
+    default: return "UNKNOWN";
+    }
+}
 
 /* The methods. Under largest remainders, of equal remainders the larger population has the seat, and
    of equal populations too the earlier state. The quota method, by Balinski and Young, gives seat after

@@ -18,13 +18,23 @@
 //! desk::allot(desk::Method::Leximin, 3, &[100, 200], &mut seats).unwrap();
 //! assert_eq!(seats, [1, 2]);
 //!
-//! // A refusal has document 01's number and the line at fault.
+//! // A refusal has document 01's number and the line at fault, and says in words what is wrong.
 //! let refusal = desk::read(b"register,leximin,3,2\nNorth,100\n").unwrap_err();
 //! assert_eq!((refusal.number, refusal.line), (2, 3));
+//! assert_eq!(
+//!     refusal.to_string(),
+//!     "refused 2 on line 3: the line is missing, unended or ill-formed, or it follows the closing line"
+//! );
 //! ```
 
 pub mod ffi;
+mod refusals;
+mod words;
 
+pub use refusals::{Reason, Refusal};
+
+/// The version of the library's interface, as `include/desk.h` names it.
+pub const VERSION: &str = env!("DESK_VERSION");
 /// The most states a register may have.
 pub const STATES_LIMIT: usize = 800;
 /// The thousandths of a per cent in one whole: a departure shown as so many is 100 per cent.
@@ -46,22 +56,6 @@ const CLEAN_TOTAL_ROOM: usize = 17;
 /// Room for any clean copy of a register, as the library is proved to.
 pub const CLEAN_ROOM: usize = CLEAN_HEAD_ROOM + STATES_LIMIT * CLEAN_LINE_ROOM + CLEAN_TOTAL_ROOM;
 
-/// Why an operation was refused: document 01's number, and the line of the register counted from
-/// 1, or 0 where no line applies.
-#[derive(Clone, Copy, Debug, PartialEq, Eq)]
-pub struct Refusal {
-    pub number: u64,
-    pub line: u64,
-}
-
-impl std::fmt::Display for Refusal {
-    fn fmt(&self, f: &mut std::fmt::Formatter) -> std::fmt::Result {
-        write!(f, "refused,{},{}", self.number, self.line)
-    }
-}
-
-impl std::error::Error for Refusal {}
-
 /// A refusal if the number says there was one.
 fn outcome(number: u64, line: u64) -> Result<(), Refusal> {
     match number {
@@ -73,7 +67,8 @@ fn outcome(number: u64, line: u64) -> Result<(), Refusal> {
 /// The eight methods, in the order of their numbers. Under largest remainders, of equal remainders
 /// the larger population has the seat, and of equal populations too the earlier state. Quota,
 /// by Balinski and Young, gives seat after seat as Jefferson does, but only to states below their
-/// share of the seats so far, that seat included.
+/// share of the seats so far, that seat included. A method is displayed as, and parsed from, the word
+/// that a register has for it.
 #[derive(Clone, Copy, Debug, PartialEq, Eq)]
 pub enum Method {
     Leximin,
@@ -230,7 +225,8 @@ impl Placing {
     }
 }
 
-/// How far a departure is from the average: up to 10 per cent, up to 15, beyond.
+/// How far a departure is from the average: up to 10 per cent, up to 15, beyond. It is displayed as the
+/// word that a listing has for it, `in`, `high` or `over`.
 #[derive(Clone, Copy, Debug, PartialEq, Eq)]
 pub enum Mark {
     In,
@@ -239,7 +235,15 @@ pub enum Mark {
 }
 
 /// A departure as it is shown, in thousandths of a per cent ([`SHOWN_SCALE`] of them are one
-/// whole), and the mark of its exact size.
+/// whole), and the mark of its exact size. Above the average, a positive number, means more people a
+/// seat. It is displayed in per cent, as a listing has it:
+///
+/// ```
+/// let departure = desk::departure(26, 3, 201, 20).unwrap().unwrap();
+/// assert_eq!(departure.shown, -13765);
+/// assert_eq!(departure.to_string(), "-13.765");
+/// assert_eq!(departure.mark.to_string(), "high");
+/// ```
 #[derive(Clone, Copy, Debug, PartialEq, Eq)]
 pub struct Departure {
     pub shown: i64,

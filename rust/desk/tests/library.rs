@@ -65,7 +65,7 @@ fn listings_are_those_beside_the_registers() {
     for file in ["five-states", "cut-short", "false-total", "name-twice"] {
         let printed = match listing(&example(&format!("{file}.register"))) {
             Ok(listing) => listing,
-            Err(refusal) => format!("{refusal}\n").into_bytes(),
+            Err(refusal) => format!("{}\n", refusal.printed()).into_bytes(),
         };
         assert_eq!(printed, example(&format!("{file}.listing")), "{file}");
     }
