@@ -53,7 +53,9 @@ def run(arguments: argparse.Namespace) -> int:
             text = b"refused,%d,%d\n" % (refused.number, refused.line)
         if not _written(text):
             return 2
-        if refusal is not None:
+        if refusal is None:
+            files.remark_on_quotes(path, [line.partition(",")[0] for line in text.decode("ascii").splitlines()[1:-1]])
+        else:
             faults.tell(refusal)
             status = max(status, 1)
     return status

@@ -3,6 +3,7 @@
 from __future__ import annotations
 
 import sys
+from typing import Sequence
 
 import desk
 
@@ -46,6 +47,22 @@ def read_register(path: str) -> tuple[bytes, desk.Register]:
     """A file's bytes, and the register that the desk reads from them."""
     data = read_bytes(path)
     try:
-        return data, desk.read(data)
+        register = desk.read(data)
     except desk.Refused as refusal:
         raise refused(path, data, refusal) from None
+    remark_on_quotes(path, register.names)
+    return data, register
+
+
+def remark_on_quotes(path: str, names: Sequence[str]) -> None:
+    """Says where names stand in quotes. A register has no quoting, so the desk reads the quotes as part of the names; whoever wrote them may
+    have meant otherwise."""
+    lines = [place for place, name in enumerate(names, start=2) if len(name) > 1 and name[0] == name[-1] == '"']
+    if lines:
+        one = f"the quotes around the name on line {lines[0]} are read as part of it"
+        several = f"the quotes around names on {len(lines)} lines, the first of them line {lines[0]}, are read as part of these"
+        print(
+            f"{shown_path(path)}: {several if lines[1:] else one}, since a register has no quoting; "
+            "if they are not meant so, take them out (`office make` puts none into a register)",
+            file=sys.stderr,
+        )

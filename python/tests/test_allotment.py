@@ -335,6 +335,14 @@ class Listing(Tree):
             done = self.run_it(FIVE, stdout=full)
         self.assertEqual((done.returncode, done.stderr), (2, self.stored("nothing-taken.stderr")))
 
+    def test_quotes_around_names(self) -> None:
+        for name, told in ((b'"B"', True), (b'"B', False)):
+            done = self.run_it(input=b'register,hill,5,2\nA "b",26\n%s,27\ntotal,53\n' % name)
+            listing = b'allotment,hill,5,2\nA "b",26,2,22.642,over\n%s,27,3,-15.094,over\ntotal,53,5\n' % name
+            self.assertEqual((done.returncode, done.stdout), (0, listing))
+            self.assertEqual(done.stderr.startswith(b"standard input: quotes around names are read as part of them"), told)
+            self.assertEqual(bool(done.stderr), told)
+
     def test_refusals_in_words(self) -> None:
         name = f'bash "{self.root}/allotment"'
         register = EXAMPLES / "false-total.register"

@@ -115,6 +115,29 @@ class ExitStatus(unittest.TestCase):
         self.assertIn("Békés", done.stdout.decode("utf-8"))
 
 
+class Quotes(unittest.TestCase):
+    """Quotes around names are no fault, and are told of, since whoever wrote them may have meant otherwise."""
+
+    def told(self, *states: str) -> list[str]:
+        with tempfile.TemporaryDirectory() as folder:
+            register = Path(folder) / "x.register"
+            register.write_bytes(desk.register_text("hill", 9, states, range(1, len(states) + 1)))
+            runs = [office(command, str(register), cwd=folder) for command in ("allot", "compare", "explain")]
+            told = [run.stderr.decode().replace(f"{register}: ", "") for run in runs]
+        self.assertEqual([run.returncode for run in runs], [0, 0, 0], told)
+        self.assertEqual(told, told[:1] * 3)
+        return told[0].splitlines()
+
+    def test_told(self) -> None:
+        (one,) = self.told("A", '"B"')
+        self.assertTrue(one.startswith("the quotes around the name on line 3 are read as part of it, since a register has no quoting; "))
+        (several,) = self.told('"A"', "B", '"C"')
+        self.assertTrue(several.startswith("the quotes around names on 2 lines, the first of them line 2, are read as part of these, "))
+
+    def test_quotes_elsewhere_are_left_alone(self) -> None:
+        self.assertEqual(self.told('The "old" town', '"', '"B', 'C"'), [])
+
+
 class Names(unittest.TestCase):
     """Names with accents, put back from a file beside the register or from one that is named."""
 
