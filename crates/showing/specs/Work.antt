@@ -1,5 +1,5 @@
 -- Leximin's work as text, so that a person can follow which state moved at each step and why: the start, then before each step every
--- state's seats and departure as they are and as they would be, then the step, and at last the end. README has the format with an example.
+-- state's seats and departure as they are and as they would be, then the step, and at last the end. docs/PROGRAMS.md has an example.
 -- A line is laid out in the order in which it is written. P is the sum of the populations, H the house; departures are measured against P
 -- / H throughout. A state's name stands on its line of the register; `rows` is the register from the first state's line on.
 -- Assumes nothing.

@@ -1,7 +1,7 @@
 // The work program: shows leximin's work for a register, whatever method the register names: each state's own nearest seats, then before
-// each step every state as it is and as it would be, the step, and at last the house. README has the format. The register comes on standard
-// input, or from each file that the arguments name, in turn; a refused one prints `refused`, a number and a line alone. All that is shown
-// is written by crate `showing`; this file only moves bytes and placings.
+// each step every state as it is and as it would be, the step, and at last the house. docs/PROGRAMS.md has the format. The register comes
+// on standard input, or from each file that the arguments name, in turn; a refused one prints `refused`, a number and a line alone. All
+// that is shown is written by crate `showing`; this file only moves bytes and placings.
 use apportionment::STATE_LIMIT;
 use apportionment::refusals::ACCEPTED;
 use placing::Placing;
