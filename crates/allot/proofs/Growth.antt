@@ -14,7 +14,7 @@ use denote.Triple.Clauses.{AtExit}
 use borrow.Fn.Kinds.{Dens, endedOf}
 use Rattle.apportionment.specs.Lists.{sum, firstPlace, among, countBelow, listOf}
 use Rattle.apportionment.specs.Refusals.{accepted}
-use Rattle.apportionment.specs.Checks.{within, outside, firstRefusal}
+use Rattle.apportionment.specs.Refusals.{within, outside, firstRefusal}
 use Rattle.apportionment.specs.Quantities.{less, atMost, distance, sizeOf}
 use Rattle.apportionment.specs.Leximin.{sizesOf, insert, largestFirst, listLess, moreAtFirst, sizeList, chosenBefore, withFirst}
 use Rattle.apportionment.specs.Leximin.{allotments, firstOf, firstOfAll, leximinFor}

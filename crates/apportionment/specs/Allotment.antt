@@ -1,48 +1,28 @@
 -- Document 01, "Operations": the checks of allotting and of opening in their order, and what allotting gives.
--- Assumes nothing.
-use mathlib.Core.Bool.{Bool, true, false, cond, not, _&&_}
-use mathlib.Core.List.{List, [], _∷_, _++_}
-use Prim.Native.Nat.{ℕ}
-use lib.Dec.{ltb, eqb}
-use lib.ListN.{length}
-use Rattle.apportionment.specs.Limits.{stateLimit, houseLimit, sumLimit}
+use Rattle.apportionment.specs.Words.{Bool, true, false, cond, not, _&&_, List, [], _∷_, _++_, ℕ, ltb, eqb, length, DivisorMethod}
+use Rattle.apportionment.specs.Words.{Method, Leximin, Adams, Dean, Hill, Webster, Jefferson, Remainders, Quota}
 use Rattle.apportionment.specs.Refusals.{accepted, statesOutOfLimits, houseOutOfLimits, populationZero, sumTooLarge, seatListLength}
-use Rattle.apportionment.specs.Refusals.{houseBelowStates}
-use Rattle.apportionment.specs.Checks.{outside, firstRefusal}
-use Rattle.apportionment.specs.Lists.{sum}
-use Rattle.apportionment.specs.Leximin.{leximinFor, gap}
-use Rattle.apportionment.specs.Divisor.{divisorSeats}
-use Rattle.apportionment.specs.Remainders.{remainderSeats}
-use Rattle.apportionment.specs.Quota.{quotaSeats}
-use Rattle.apportionment.specs.declared.DivisorMethod.{DivisorMethod}
-use Rattle.apportionment.specs.declared.Method.{Method}
-use Rattle.apportionment.specs.declared.Method.the-variants.{Leximin, Adams, Dean, Hill, Webster, Jefferson, Remainders, Quota}
+use Rattle.apportionment.specs.Refusals.{houseBelowStates, outside, firstRefusal}
+use Rattle.apportionment.specs.{Limits.stateLimit, Limits.houseLimit, Limits.sumLimit, Lists.sum, Leximin.leximinFor, Leximin.gap}
+use Rattle.apportionment.specs.{Divisor.divisorSeats, Remainders.remainderSeats, Quota.quotaSeats}
 
--- ---- the checks, each true where it fails
-
--- 10: the number of states is outside its limits.
-unfoldable pub statesOutside : (ps : List ℕ) → Bool
+unfoldable pub statesOutside : (ps : List ℕ) → Bool  -- 10: the number of states is outside its limits.
 statesOutside ps = outside stateLimit (length ps)
 
--- 11: the house is outside its limits.
-unfoldable pub houseOutside : (H : ℕ) → Bool
+unfoldable pub houseOutside : (H : ℕ) → Bool  -- 11: the house is outside its limits.
 houseOutside H = outside houseLimit H
 
--- 12: some population is 0.
-unfoldable pub hasZero : (ps : List ℕ) → Bool
+unfoldable pub hasZero : (ps : List ℕ) → Bool  -- 12: some population is 0.
 hasZero [] = false
 hasZero (p ∷ ps) = cond (eqb p 0) true (hasZero ps)
 
--- 13: the sum is too large.
-unfoldable pub sumOutside : (ps : List ℕ) → Bool
+unfoldable pub sumOutside : (ps : List ℕ) → Bool  -- 13: the sum is too large.
 sumOutside ps = ltb sumLimit (sum ps)
 
--- 14: the seat list has not a place for each state.
-unfoldable pub listMisfits : (room : ℕ) (ps : List ℕ) → Bool
+unfoldable pub listMisfits : (room : ℕ) (ps : List ℕ) → Bool  -- 14: the seat list has not a place for each state.
 listMisfits room ps = not (eqb room (length ps))
 
--- The methods that give every state a seat.
-abbrev pub seatsEveryState : Method → Bool
+abbrev pub seatsEveryState : Method → Bool  -- The methods that give every state a seat.
 seatsEveryState Leximin = true
 seatsEveryState Adams = true
 seatsEveryState Dean = true
@@ -52,14 +32,10 @@ seatsEveryState Jefferson = false
 seatsEveryState Remainders = false
 seatsEveryState Quota = false
 
--- 15: the house has fewer seats than there are states, under a method that gives each state one.
-unfoldable pub seatsTooFew : Method → (ps : List ℕ) (H : ℕ) → Bool
+unfoldable pub seatsTooFew : Method → (ps : List ℕ) (H : ℕ) → Bool  -- 15: such a method, and fewer seats than states.
 seatsTooFew m ps H = seatsEveryState m && ltb H (length ps)
 
--- ---- the refusals, 0 for none
-
--- The checks that allotting and opening share.
-unfoldable pub problemChecks : (ps : List ℕ) (H : ℕ) → List (Bool × ℕ)
+unfoldable pub problemChecks : (ps : List ℕ) (H : ℕ) → List (Bool × ℕ)  -- The checks that allotting and opening share.
 problemChecks ps H =
     (statesOutside ps, statesOutOfLimits)
     ∷ (houseOutside H, houseOutOfLimits)
@@ -67,19 +43,14 @@ problemChecks ps H =
     ∷ (sumOutside ps, sumTooLarge)
     ∷ []
 
--- The refusal of allotting; `room` is the length of the lent seat list.
-unfoldable pub allotRefusal : Method → (H : ℕ) (ps : List ℕ) (room : ℕ) → ℕ
+unfoldable pub allotRefusal : Method → (H : ℕ) (ps : List ℕ) (room : ℕ) → ℕ  -- `room` is the length of the lent seat list.
 allotRefusal m H ps room =
     firstRefusal (problemChecks ps H ++ (listMisfits room ps, seatListLength) ∷ (seatsTooFew m ps H, houseBelowStates) ∷ [])
 
--- The refusal of opening a placing.
-unfoldable pub openRefusal : (ps : List ℕ) (H : ℕ) → ℕ
+unfoldable pub openRefusal : (ps : List ℕ) (H : ℕ) → ℕ  -- The refusal of opening a placing.
 openRefusal ps H = firstRefusal (problemChecks ps H ++ (seatsTooFew Leximin ps H, houseBelowStates) ∷ [])
 
--- ---- what allotting gives
-
--- The allotment of each method.
-unfoldable pub seatsOf : Method → (ps : List ℕ) (H : ℕ) → List ℕ
+unfoldable pub seatsOf : Method → (ps : List ℕ) (H : ℕ) → List ℕ  -- The allotment of each method.
 seatsOf Leximin ps H = leximinFor ps H H
 seatsOf Adams ps H = divisorSeats DivisorMethod.Adams ps H
 seatsOf Dean ps H = divisorSeats DivisorMethod.Dean ps H
@@ -89,21 +60,11 @@ seatsOf Jefferson ps H = divisorSeats DivisorMethod.Jefferson ps H
 seatsOf Remainders ps H = remainderSeats ps H
 seatsOf Quota ps H = quotaSeats ps H
 
--- The steps that allotting reports: the gap between L and H under leximin, 0 otherwise.
-unfoldable pub stepsOf : Method → (ps : List ℕ) (H : ℕ) → ℕ
-stepsOf Leximin ps H = gap ps H
-stepsOf Adams ps H = 0
-stepsOf Dean ps H = 0
-stepsOf Hill ps H = 0
-stepsOf Webster ps H = 0
-stepsOf Jefferson ps H = 0
-stepsOf Remainders ps H = 0
-stepsOf Quota ps H = 0
+unfoldable pub stepsOf : Method → (ps : List ℕ) (H : ℕ) → ℕ  -- The gap between L and H under leximin.
+stepsOf m ps H = elim m [ Leximin ↦ gap ps H | Adams ↦ 0 | Dean ↦ 0 | Hill ↦ 0 | Webster ↦ 0 | Jefferson ↦ 0 | Remainders ↦ 0 | Quota ↦ 0 ]
 
--- The lent seat list afterwards: the allotment, or untouched on a refusal.
-unfoldable pub seatsAfter : Method → (H : ℕ) (ps seats : List ℕ) → List ℕ
+unfoldable pub seatsAfter : Method → (H : ℕ) (ps seats : List ℕ) → List ℕ  -- The lent seat list afterwards: untouched on a refusal.
 seatsAfter m H ps seats = cond (eqb (allotRefusal m H ps (length seats)) accepted) (seatsOf m ps H) seats
 
--- The steps handed back: 0 on a refusal.
-unfoldable pub stepsAfter : Method → (H : ℕ) (ps : List ℕ) (room : ℕ) → ℕ
+unfoldable pub stepsAfter : Method → (H : ℕ) (ps : List ℕ) (room : ℕ) → ℕ  -- The steps handed back: 0 on a refusal.
 stepsAfter m H ps room = cond (eqb (allotRefusal m H ps room) accepted) (stepsOf m ps H) 0

@@ -1,7 +1,7 @@
 -- The definitions of document 01, in its order. A reader who believes these files believes the desk.
+pub mod Words
 pub mod Limits
 pub mod Refusals
-pub mod Checks
 pub mod Lists
 pub mod Text
 pub mod Methods

@@ -1,19 +1,14 @@
 -- The limits of document 01, "Quantities" and "Operations", each named once.
--- Assumes nothing.
-use Prim.Native.Nat.{ℕ}
+use Rattle.apportionment.specs.Words.{ℕ}
 
--- The most states a register may have (n).
-abbrev pub stateLimit : ℕ
+abbrev pub stateLimit : ℕ  -- The most states a register may have (n).
 stateLimit = 800
 
--- The largest house (H).
-abbrev pub houseLimit : ℕ
+abbrev pub houseLimit : ℕ  -- The largest house (H).
 houseLimit = 30000
 
--- The largest sum of populations (P).
-abbrev pub sumLimit : ℕ
+abbrev pub sumLimit : ℕ  -- The largest sum of populations (P).
 sumLimit = 4294967295
 
--- The most bytes of a register.
-abbrev pub registerLimit : ℕ
+abbrev pub registerLimit : ℕ  -- The most bytes of a register.
 registerLimit = 65536

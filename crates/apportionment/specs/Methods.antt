@@ -1,43 +1,30 @@
--- Document 01, "The register" and "Operations": the methods in the document's order, their words as registers and listings spell them,
--- and their numbers, which stand for them in the C interface.
--- Assumes nothing.
-use mathlib.Core.List.{List, [], _∷_}
-use Prim.Native.Nat.{ℕ, _-_}
-use lib.ListN.{length, getD}
+-- Document 01, "The register" and "Operations": the methods in their order, their words, and their numbers in the C interface.
+use Rattle.apportionment.specs.Words.{List, [], _∷_, ℕ, _-_, length, getD, Method, Leximin, Adams, Dean, Hill, Webster, Jefferson}
+use Rattle.apportionment.specs.Words.{Remainders, Quota}
 use Rattle.apportionment.specs.Text.{bytesOf}
-use Rattle.apportionment.specs.declared.Method.{Method}
-use Rattle.apportionment.specs.declared.Method.the-variants.{Leximin, Adams, Dean, Hill, Webster, Jefferson, Remainders, Quota}
 
--- The methods, in document 01's order.
-abbrev pub methods : List Method
+abbrev pub methods : List Method  -- The methods, in document 01's order.
 methods = Leximin ∷ Adams ∷ Dean ∷ Hill ∷ Webster ∷ Jefferson ∷ Remainders ∷ Quota ∷ []
 
--- The word of a method.
-unfoldable pub methodText : Method → List ℕ
-methodText Leximin = bytesOf "leximin"
-methodText Adams = bytesOf "adams"
-methodText Dean = bytesOf "dean"
-methodText Hill = bytesOf "hill"
-methodText Webster = bytesOf "webster"
-methodText Jefferson = bytesOf "jefferson"
-methodText Remainders = bytesOf "remainders"
-methodText Quota = bytesOf "quota"
+unfoldable pub methodText : Method → List ℕ  -- The word of a method.
+methodText =
+    elim [
+      | Leximin ↦ bytesOf "leximin"
+      | Adams ↦ bytesOf "adams"
+      | Dean ↦ bytesOf "dean"
+      | Hill ↦ bytesOf "hill"
+      | Webster ↦ bytesOf "webster"
+      | Jefferson ↦ bytesOf "jefferson"
+      | Remainders ↦ bytesOf "remainders"
+      | Quota ↦ bytesOf "quota"
+    ]
 
--- The number of a method: its place in the list, counted from 0.
-abbrev pub methodNumber : Method → ℕ
-methodNumber Leximin = 0
-methodNumber Adams = 1
-methodNumber Dean = 2
-methodNumber Hill = 3
-methodNumber Webster = 4
-methodNumber Jefferson = 5
-methodNumber Remainders = 6
-methodNumber Quota = 7
+abbrev pub methodNumber : Method → ℕ  -- The number of a method: its place in the list, counted from 0.
+methodNumber =
+    elim [ Leximin ↦ 0 | Adams ↦ 1 | Dean ↦ 2 | Hill ↦ 3 | Webster ↦ 4 | Jefferson ↦ 5 | Remainders ↦ 6 | Quota ↦ 7 ]
 
--- The number of the last method.
-abbrev pub lastMethod : ℕ
+abbrev pub lastMethod : ℕ  -- The number of the last method.
 lastMethod = length methods - 1
 
--- The method with a number; the last one for any number past it.
-abbrev pub methodAt : ℕ → Method
+abbrev pub methodAt : ℕ → Method  -- The method with a number; the last one for any number past it.
 methodAt n = getD methods n Quota

@@ -1,12 +1,10 @@
--- The refusal numbers of document 01, "Operations and their refusals". 0 is no refusal.
--- Assumes nothing.
-use Prim.Native.Nat.{ℕ}
+-- Document 01, "Operations and their refusals": the refusal numbers, and checks in the order written.
+use Rattle.apportionment.specs.Words.{ℕ, Bool, false, cond, not, List, [], _∷_, leb, eqb}
 
 abbrev pub accepted : ℕ
 accepted = 0
 
--- Reading a register.
-abbrev pub registerTooLong : ℕ
+abbrev pub registerTooLong : ℕ  -- Reading a register.
 registerTooLong = 1
 
 abbrev pub lineIllFormed : ℕ
@@ -27,8 +25,7 @@ runningSumTooLarge = 6
 abbrev pub totalDiffers : ℕ
 totalDiffers = 7
 
--- Allotting and opening.
-abbrev pub statesOutOfLimits : ℕ
+abbrev pub statesOutOfLimits : ℕ  -- Allotting and opening.
 statesOutOfLimits = 10
 
 abbrev pub houseOutOfLimits : ℕ
@@ -46,12 +43,10 @@ seatListLength = 14
 abbrev pub houseBelowStates : ℕ
 houseBelowStates = 15
 
--- Moving a placing.
-abbrev pub placingForeign : ℕ
+abbrev pub placingForeign : ℕ  -- Moving a placing.
 placingForeign = 21
 
--- Departure, listing, name.
-abbrev pub departureOutOfLimits : ℕ
+abbrev pub departureOutOfLimits : ℕ  -- Departure, listing, name.
 departureOutOfLimits = 30
 
 abbrev pub bufferTooShort : ℕ
@@ -59,3 +54,13 @@ bufferTooShort = 31
 
 abbrev pub placeOutOfStates : ℕ
 placeOutOfStates = 40
+
+unfoldable pub within : (limit x : ℕ) → Bool  -- A number is at least 1 and at most the limit.
+within limit x = cond (eqb x 0) false (leb x limit)
+
+unfoldable pub outside : (limit x : ℕ) → Bool
+outside limit x = not (within limit x)
+
+unfoldable pub firstRefusal : (checks : List (Bool × ℕ)) → ℕ  -- Pairs of a test, true where it fails, and a number; the first decides.
+firstRefusal [] = accepted
+firstRefusal (check ∷ later) = cond (check .0) (check .1) (firstRefusal later)

@@ -5,7 +5,7 @@ pub mod methods;
 pub mod refusals;
 
 ghost use mathlib.Core.Path.{_≡_};
-ghost use Rattle.apportionment.specs.Checks.{within, outside};
+ghost use Rattle.apportionment.specs.Refusals.{within, outside};
 
 // The eight methods, in the order in which document 01 names them; quota joined them last.
 pub enum Method {

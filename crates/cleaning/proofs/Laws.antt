@@ -15,12 +15,12 @@ use borrow.Fn.Kinds.{Dens, endedOf}
 use Rattle.apportionment.specs.Refusals.{accepted}
 use Rattle.apportionment.specs.inner.Tests.{either-way}
 use Rattle.register.specs.Register.{readingOf, populationsIn}
-use Rattle.register.specs.Names.{nameOf}
+use Rattle.register.specs.Register.{nameOf}
 use Rattle.register.specs.declared.Reading.{Reading}
 use Rattle.register.specs.inner.Sound.{reading-sound, name-none}
 use Rattle.register.specs.inner.Written.{reading-writable, read-count, read-with}
-use Rattle.text.specs.inner.Handover.{written-unless-refused}
-use Rattle.text.specs.declared.handover.Written.{Written}
+use Rattle.handover.specs.inner.Handover.{written-unless-refused}
+use Rattle.handover.specs.declared.Written.{Written}
 use Rattle.cleaning.specs.Clean.{noTail, cleanIn, cleanOf, CleanIs, Agree}
 use Rattle.cleaning.specs.inner.Stored.{stored-agree}
 use Rattle.cleaning.specs.inner.Back.{reads-back, names-back}

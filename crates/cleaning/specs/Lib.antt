@@ -1,4 +1,3 @@
 -- The clean form of a register, and what writing it gives, for any bytes and any lent buffer.
-pub mod Stored
 pub mod Clean
 pub mod inner

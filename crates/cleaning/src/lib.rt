@@ -1,20 +1,19 @@
 // Clean copies: each register that is read has one clean form, with LF and without leading zeros, which is written here.
 use apportionment::STATE_LIMIT;
 use apportionment::refusals;
+use handover::Written;
 use register::Reading;
 use register::rows;
 use register::rows::name_placed;
-use text::handover;
-use text::handover::Written;
 ghost use mathlib.Core.List.{[]};
 ghost use Prim.Native.Nat.{_≤_};
 ghost use lib.ListN.{length};
 ghost use Rattle.apportionment.specs.Refusals.{accepted};
-ghost use Rattle.register.specs.Names.{nameInRow};
+ghost use Rattle.register.specs.Register.{nameInRow};
 ghost use Rattle.register.specs.inner.Rows.{Placed};
-ghost use Rattle.text.specs.Writing.{Wrote};
-ghost use Rattle.text.specs.Handover.{WritingIs};
-ghost use Rattle.cleaning.specs.Stored.{pairLine, stateLines};
+ghost use Rattle.writing.specs.inner.Writing.{Wrote};
+ghost use Rattle.handover.specs.Handover.{WritingIs};
+ghost use Rattle.cleaning.specs.Clean.{pairLine, stateLines};
 ghost use Rattle.cleaning.specs.Clean.{noTail, cleanIn, CleanIs, cleanPrinted};
 ghost use Rattle.cleaning.specs.inner.Room.{roomFor, fewStates, Cleanable};
 
@@ -38,10 +37,10 @@ const FEW_ROOM: usize = HEAD_ROOM + FEW_STATES * LINE_ROOM + TOTAL_ROOM;
 fn put_pair(out: &mut [u8], at: usize, word: &[u8], number: u64) -> usize
     ensures { λ r. ⌜ Wrote (now (out .entry)) at (pairLine (now (word .entry)) number []) (now (out .exit)) r ⌝ }
 {
-    let first = text::put_bytes(out, at, word);
-    let comma = text::put_byte(out, first, b',');
-    let digits = text::put_decimal(out, comma, number);
-    text::put_byte(out, digits, b'\n')
+    let first = writing::put_bytes(out, at, word);
+    let comma = writing::put_byte(out, first, b',');
+    let digits = writing::put_decimal(out, comma, number);
+    writing::put_byte(out, digits, b'\n')
 }
 
 // The states' lines. Their names stand in the rows of the register, from their starts to their ends.

@@ -1,6 +1,3 @@
 -- What the C interface hands back, from what the operations do.
-pub mod Numbers
-pub mod Exported
-pub mod Allotting
-pub mod Part
+pub mod Interface
 pub mod inner

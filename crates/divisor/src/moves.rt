@@ -1,10 +1,10 @@
 // Moves: the seats that rounding left lacking or too much are placed (`up`) or withdrawn one after the other, by a tournament or, where
 // that is faster, by scans.
 use crate::tournament::build;
-use crate::tournament::plant;
 use crate::tournament::replay;
 use apportionment::DivisorMethod;
 use apportionment::STATE_LIMIT;
+use claims::tournament::plant;
 use signposts::order::first_to_move;
 ghost use mathlib.Core.Path.{_≡_};
 ghost use Prim.Native.Nat.{_+_, _*_, _^_, _<_};

@@ -1,24 +1,10 @@
 // The tournament of states: a leaf for each, and at each inner place the one of its two that moves first. The root is the next to move.
 use apportionment::DivisorMethod;
 use signposts::order::better_of;
-ghost use mathlib.Core.Path.{_≡_};
-ghost use Prim.Native.Nat.{_*_};
 ghost use lib.ListN.{length};
 ghost use Rattle.claims.specs.inner.TournamentReplay.{Planted, Decidable};
 ghost use Rattle.signposts.specs.inner.Order.{ClaimsFit};
 ghost use Rattle.divisor.specs.inner.Moves.{Decided, Replays, Played};
-
-// Puts each state at its leaf.
-pub fn plant(states: usize, tree: &mut [usize])
-    requires { ⌜ length (now tree) ≡ 2 * states ⌝ }
-    ensures { λ _. ⌜ Planted states states (now (tree .exit)) ⌝ }
-{
-    let mut i = 0;
-    while i < states {
-        tree[states + i] = i;
-        i += 1;
-    }
-}
 
 // Decides an inner place: of the two below it, the one that moves first.
 fn decide(

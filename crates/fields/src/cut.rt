@@ -3,7 +3,7 @@ use crate::parts::past;
 use crate::parts::place_of;
 use crate::parts::upto;
 ghost use mathlib.Core.Path.{_≡_};
-ghost use Rattle.fields.specs.Parts.{placeOf};
+ghost use Rattle.fields.specs.Grammar.{placeOf};
 ghost use Rattle.fields.specs.Grammar.{lineFeed, comma, ended, withoutReturn, lineOf, restOf, fieldOf, fieldsAfter};
 
 const LF: u8 = 10;

@@ -3,7 +3,7 @@ ghost use mathlib.Core.Path.{_≡_};
 ghost use Prim.Native.Nat.{_+_, _≤_};
 ghost use lib.ListN.{length, take, drop};
 ghost use Rattle.apportionment.specs.Lists.{sameList};
-ghost use Rattle.fields.specs.Parts.{placeOf, allBetween};
+ghost use Rattle.fields.specs.Grammar.{placeOf, allBetween};
 
 // The place of the first byte `b`, or the length where there is none.
 pub fn place_of(s: &[u8], b: u8) -> usize

@@ -4,7 +4,7 @@ use crate::parts::all_between;
 use crate::parts::same;
 use apportionment::methods;
 ghost use mathlib.Core.Path.{_≡_};
-ghost use Rattle.fields.specs.Parts.{allBetween};
+ghost use Rattle.fields.specs.Grammar.{allBetween};
 ghost use Rattle.fields.specs.Grammar.{isName, isMethodField, methodNamed};
 
 const WORD_LIMIT: usize = 32;

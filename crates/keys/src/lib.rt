@@ -1,6 +1,6 @@
 // Keys, whole numbers that order quotients exactly, and tournaments of them: a leaf for each place, and at each inner place the one of its
 // two with the larger key, of equal keys the earlier. The root is the first of all.
-use divisor::tournament::plant;
+use claims::tournament::plant;
 ghost use mathlib.Core.Path.{_≡_};
 ghost use Prim.Native.Nat.{_*_, _/_, _<_, _≤_};
 ghost use lib.ListN.{length, set};

@@ -3,18 +3,17 @@ mod rows;
 
 use apportionment::STATE_LIMIT;
 use apportionment::refusals;
+use handover::Written;
 use register::Reading;
-use text::handover;
-use text::handover::Written;
 ghost use mathlib.Core.Path.{_≡_};
 ghost use Prim.Native.Nat.{_≤_};
 ghost use lib.ListN.{length};
-ghost use Rattle.register.specs.Names.{rowsOf, nameInRow};
+ghost use Rattle.register.specs.Register.{rowsOf, nameInRow};
 ghost use Rattle.register.specs.inner.Rows.{Placed};
 ghost use Rattle.register.specs.inner.Sound.{GoodReading};
 ghost use Rattle.apportionment.specs.Refusals.{accepted};
-ghost use Rattle.text.specs.Writing.{Wrote};
-ghost use Rattle.text.specs.Handover.{WritingIs};
+ghost use Rattle.writing.specs.inner.Writing.{Wrote};
+ghost use Rattle.handover.specs.Handover.{WritingIs};
 ghost use Rattle.listing.specs.Listing.{listingIn, ListingIs, listingPrinted};
 ghost use Rattle.listing.specs.inner.Room.{AllListable};
 

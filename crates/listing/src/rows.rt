@@ -6,9 +6,9 @@ ghost use mathlib.Core.List.{[]};
 ghost use Prim.Native.Nat.{_<_};
 ghost use lib.ListN.{length};
 ghost use Rattle.departure.specs.inner.Answer.{AllInLimits, InLimits};
-ghost use Rattle.register.specs.Names.{nameInRow};
+ghost use Rattle.register.specs.Register.{nameInRow};
 ghost use Rattle.register.specs.inner.Rows.{Placed};
-ghost use Rattle.text.specs.Writing.{Wrote};
+ghost use Rattle.writing.specs.inner.Writing.{Wrote};
 ghost use Rattle.listing.specs.Listing.{stateLine, stateLines};
 
 // A state's line.
@@ -25,13 +25,13 @@ fn put_state(
     ensures { λ r. ⌜ Wrote (now (out .entry)) at (stateLine (now (name .entry)) population seats total house) (now (out .exit)) r ⌝ }
 {
     let answer = departure_of(population, seats, total, house);
-    let named = text::put_bytes(out, at, name);
+    let named = writing::put_bytes(out, at, name);
     let numbers = text::put_numbers(out, named, population, seats);
-    let comma = text::put_byte(out, numbers, b',');
+    let comma = writing::put_byte(out, numbers, b',');
     let shown = answers::put_departure(out, comma, answer);
-    let next = text::put_byte(out, shown, b',');
+    let next = writing::put_byte(out, shown, b',');
     let marked = answers::put_mark(out, next, answer);
-    text::put_byte(out, marked, b'\n')
+    writing::put_byte(out, marked, b'\n')
 }
 
 // The states' lines. Their names stand in the rows of the register, from their starts to their ends.

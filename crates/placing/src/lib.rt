@@ -1,10 +1,9 @@
 // The placing: leximin's work seat by seat. Opening hands back each state's nearest seats, and a move takes a placing so many seats towards
 // the house; a placing that opening and moves did not give is told from one that they did, and left as it was.
 mod genuine;
-mod lists;
 
 use crate::genuine::is_genuine;
-use crate::lists::copy_into;
+use agreement::lists::copy_into;
 use apportionment::STATE_LIMIT;
 use apportionment::refusals::ACCEPTED;
 use apportionment::refusals::PLACING_FOREIGN;

@@ -1,4 +1,3 @@
 -- What reading a register gives, for any bytes: its refusals and lines, or what it says.
 pub mod Register
-pub mod Names
 pub mod inner

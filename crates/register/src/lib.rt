@@ -10,7 +10,7 @@ use apportionment::refusals::REGISTER_TOO_LONG;
 use lines::head;
 ghost use mathlib.Core.Path.{_≡_};
 ghost use Rattle.register.specs.Register.{readingOf};
-ghost use Rattle.register.specs.Names.{nameOf, nameRefusalOf};
+ghost use Rattle.register.specs.Register.{nameOf, nameRefusalOf};
 ghost use Rattle.register.specs.inner.Rows.{PlacesRoom, PlacedIn};
 
 // What reading gives. Refused, all but the number and the line is 0, and the method is leximin.

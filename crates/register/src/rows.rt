@@ -3,7 +3,7 @@
 use fields::cut;
 use lines::pairs;
 ghost use mathlib.Core.Path.{_≡_};
-ghost use Rattle.register.specs.Names.{rowsOf, linesAfter, nameInRow};
+ghost use Rattle.register.specs.Register.{rowsOf, linesAfter, nameInRow};
 ghost use Rattle.register.specs.inner.Rows.{PlacedAt};
 
 // The rows of a register: what is left after its head.

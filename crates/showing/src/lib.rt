@@ -11,7 +11,7 @@ ghost use mathlib.Core.List.{[]};
 ghost use Prim.Native.Nat.{_≤_};
 ghost use lib.ListN.{length};
 ghost use Rattle.apportionment.specs.Limits.{stateLimit};
-ghost use Rattle.text.specs.Writing.{Wrote};
+ghost use Rattle.writing.specs.inner.Writing.{Wrote};
 ghost use Rattle.showing.specs.Work.{firstDifference, movedAt, statesText, startText, endText, weighedText, stepText, moveText};
 ghost use Rattle.showing.specs.inner.Showable.{Showable, ShowableStep};
 

@@ -10,7 +10,7 @@ ghost use lib.ListN.{length};
 ghost use Rattle.apportionment.specs.Limits.{houseLimit};
 ghost use Rattle.apportionment.specs.Quantities.{departureText};
 ghost use Rattle.departure.specs.inner.Answer.{InLimits, AllInLimits};
-ghost use Rattle.text.specs.Writing.{Wrote};
+ghost use Rattle.writing.specs.inner.Writing.{Wrote};
 ghost use Rattle.showing.specs.Work.{headLine, stateLine, stateLines, seatsIfMoved, movedText, weighedLine, weighedLines};
 ghost use Rattle.showing.specs.Work.{verbText, stepLine};
 ghost use Rattle.showing.specs.inner.Showable.{Weighable};
@@ -34,9 +34,9 @@ fn put_departure(
 pub fn put_head(out: &mut [u8], at: usize, house: u64, states: u64) -> usize
     ensures { λ r. ⌜ Wrote (now (out .entry)) at (headLine house states) (now (out .exit)) r ⌝ }
 {
-    let word = text::put_bytes(out, at, b"work,leximin");
+    let word = writing::put_bytes(out, at, b"work,leximin");
     let numbers = text::put_numbers(out, word, house, states);
-    text::put_byte(out, numbers, b'\n')
+    writing::put_byte(out, numbers, b'\n')
 }
 
 // A state with its seats and departure, on a line that starts with `word`.
@@ -54,12 +54,12 @@ fn put_state(
     ensures { λ r. ⌜ Wrote (now (out .entry)) at (stateLine (now (word .entry)) (now (name .entry)) population seats sum house)
         (now (out .exit)) r ⌝ }
 {
-    let begun = text::put_bytes(out, at, word);
-    let named = text::put_bytes(out, begun, name);
+    let begun = writing::put_bytes(out, at, word);
+    let named = writing::put_bytes(out, begun, name);
     let numbers = text::put_numbers(out, named, population, seats);
-    let comma = text::put_byte(out, numbers, b',');
+    let comma = writing::put_byte(out, numbers, b',');
     let shown = put_departure(out, comma, population, seats, sum, house);
-    text::put_byte(out, shown, b'\n')
+    writing::put_byte(out, shown, b'\n')
 }
 
 // The lines of the states. Their names are on the lines of the register that start at `rows`.
@@ -124,11 +124,11 @@ fn put_moved(
     requires { ⌜ InLimits population from sum house × InLimits population to sum house ⌝ }
     ensures { λ r. ⌜ Wrote (now (out .entry)) at (movedText (now (name .entry)) population from to sum house) (now (out .exit)) r ⌝ }
 {
-    let named = text::put_bytes(out, at, name);
+    let named = writing::put_bytes(out, at, name);
     let numbers = text::put_numbers(out, named, from, to);
-    let comma = text::put_byte(out, numbers, b',');
+    let comma = writing::put_byte(out, numbers, b',');
     let old = put_departure(out, comma, population, from, sum, house);
-    let next = text::put_byte(out, old, b',');
+    let next = writing::put_byte(out, old, b',');
     put_departure(out, next, population, to, sum, house)
 }
 
@@ -148,11 +148,11 @@ fn put_weighed(
     ensures { λ r. ⌜ Wrote (now (out .entry)) at (weighedLine step (now (name .entry)) population seats moved sum house)
         (now (out .exit)) r ⌝ }
 {
-    let word = text::put_bytes(out, at, b"weighed,");
-    let number = text::put_decimal(out, word, step);
-    let comma = text::put_byte(out, number, b',');
+    let word = writing::put_bytes(out, at, b"weighed,");
+    let number = writing::put_decimal(out, word, step);
+    let comma = writing::put_byte(out, number, b',');
     let shown = put_moved(out, comma, name, population, seats, moved, sum, house);
-    text::put_byte(out, shown, b'\n')
+    writing::put_byte(out, shown, b'\n')
 }
 
 // Every state weighed before a step that adds a seat or withdraws one.
@@ -200,9 +200,9 @@ fn put_verb(out: &mut [u8], at: usize, from: u64, to: u64) -> usize
     ensures { λ r. ⌜ Wrote (now (out .entry)) at (verbText from to) (now (out .exit)) r ⌝ }
 {
     if from < to {
-        return text::put_bytes(out, at, b",gains,");
+        return writing::put_bytes(out, at, b",gains,");
     }
-    text::put_bytes(out, at, b",gives up,")
+    writing::put_bytes(out, at, b",gives up,")
 }
 
 // A step: the state that moved, with its seats and departures before and after, and the total afterwards.
@@ -222,11 +222,11 @@ pub fn put_step(
     ensures { λ r. ⌜ Wrote (now (out .entry)) at (stepLine step (now (name .entry)) population from to sum house total)
         (now (out .exit)) r ⌝ }
 {
-    let word = text::put_bytes(out, at, b"step,");
-    let number = text::put_decimal(out, word, step);
+    let word = writing::put_bytes(out, at, b"step,");
+    let number = writing::put_decimal(out, word, step);
     let verb = put_verb(out, number, from, to);
     let shown = put_moved(out, verb, name, population, from, to, sum, house);
-    let comma = text::put_byte(out, shown, b',');
-    let all = text::put_decimal(out, comma, total);
-    text::put_byte(out, all, b'\n')
+    let comma = writing::put_byte(out, shown, b',');
+    let all = writing::put_decimal(out, comma, total);
+    writing::put_byte(out, all, b'\n')
 }

@@ -81,7 +81,7 @@ pub fn tell_method(expected: &[u8], at: usize, method: Method) -> usize {
 pub fn tell_shown(expected: &[u8], shown: i64, mark: Mark) -> usize {
     let mut words = [0u8; 64];
     let departure = text::put_shown(&mut words, 0, shown);
-    let comma = text::put_byte(&mut words, departure, b',');
+    let comma = writing::put_byte(&mut words, departure, b',');
     let size = text::put_mark(&mut words, comma, mark);
     tell(expected, 0, front(&words, size))
 }

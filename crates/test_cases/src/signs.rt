@@ -43,7 +43,7 @@ fn put_numbered(out: &mut [u8], at: usize, part: &[u8], number: u64) -> usize {
     if place_of(part, b'@') == part.len() {
         return next;
     }
-    let numbered = text::put_decimal(out, next, number);
+    let numbered = writing::put_decimal(out, next, number);
     put_bytes(out, numbered, after(part, b'@'))
 }
 
@@ -51,7 +51,7 @@ fn put_bytes(out: &mut [u8], at: usize, part: &[u8]) -> usize {
     let mut next = at;
     let mut i = 0;
     while i < part.len() {
-        next = text::put_byte(out, next, meant(part[i]));
+        next = writing::put_byte(out, next, meant(part[i]));
         i += 1;
     }
     next

@@ -1,5 +1,3 @@
--- What it means that text was written into a lent buffer, and the lines that every program shares.
-pub mod Writing
+-- The lines that the desk's texts share.
 pub mod Shared
-pub mod Handover
 pub mod inner

@@ -1,23 +1,15 @@
 -- Lines that the desk's texts share: the first one, and in it two numbers; the line of totals; a refusal's.
--- Assumes nothing.
-use mathlib.Core.List.{List, _++_}
-use Prim.Native.Nat.{ℕ}
-use Rattle.apportionment.specs.Text.{bytesOf, decimal}
-use Rattle.apportionment.specs.Methods.{methodText}
-use Rattle.apportionment.specs.declared.Method.{Method}
+use Rattle.apportionment.specs.Words.{List, _++_, ℕ}
+use Rattle.apportionment.specs.{Text.bytesOf, Text.decimal, Methods.methodText, declared.Method.Method}
 
--- Two numbers of a line, each after a comma.
-unfoldable pub numbersText : (x y : ℕ) → List ℕ
+unfoldable pub numbersText : (x y : ℕ) → List ℕ  -- Two numbers of a line, each after a comma.
 numbersText x y = bytesOf "," ++ decimal x ++ bytesOf "," ++ decimal y
 
--- Line 1: the word, method, house, states.
-unfoldable pub headLine : (word : List ℕ) → Method → (H n : ℕ) → List ℕ
+unfoldable pub headLine : (word : List ℕ) → Method → (H n : ℕ) → List ℕ  -- Line 1: the word, method, house, states.
 headLine word m H n = word ++ bytesOf "," ++ methodText m ++ numbersText H n ++ bytesOf "\n"
 
--- The line of totals: the word, P, seats allotted.
-unfoldable pub totalLine : (P allotted : ℕ) → List ℕ
+unfoldable pub totalLine : (P allotted : ℕ) → List ℕ  -- The line of totals: the word, P, seats allotted.
 totalLine P allotted = bytesOf "total" ++ numbersText P allotted ++ bytesOf "\n"
 
--- A refusal's line: the word, its number, and the line that it is about.
-unfoldable pub refusalLine : (number line : ℕ) → List ℕ
+unfoldable pub refusalLine : (number line : ℕ) → List ℕ  -- A refusal's line: the word, its number, and the line that it is about.
 refusalLine number line = bytesOf "refused" ++ numbersText number line ++ bytesOf "\n"

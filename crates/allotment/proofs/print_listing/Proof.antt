@@ -3,7 +3,7 @@
 use mathlib.Core.Path.{sym}
 use lib.Seq.{length-take-le}
 use borrow.Author.Needs.{needs}
-use Rattle.text.specs.inner.Writing.{wrote-front}
+use Rattle.writing.specs.inner.Writing.{wrote-front}
 use Rattle.allotment.proofs.print_listing.Statement.{statement}
 use Rattle.allotment.proofs.print_listing.Tie as tie
 

@@ -1,7 +1,7 @@
 -- `outside` turns the answer of `within` over, as its definition does.
 -- Assumes nothing.
 use borrow.Author.Needs.{needs}
-use Rattle.apportionment.specs.Checks.{outside}
+use Rattle.apportionment.specs.Refusals.{outside}
 use Rattle.apportionment.proofs.outside.Statement.{statement}
 use Rattle.apportionment.proofs.outside.Tie as tie
 

@@ -1,7 +1,7 @@
 -- `within` makes the definition's two tests.
 -- Assumes nothing.
 use borrow.Author.Tests.{eq-eqb, ne-eqb}
-use Rattle.apportionment.specs.Checks.{within}
+use Rattle.apportionment.specs.Refusals.{within}
 use Rattle.apportionment.proofs.within.Statement.{statement}
 use Rattle.apportionment.proofs.within.Tie as tie
 

@@ -8,7 +8,7 @@ use native.Mathlib.Omega.{arith}
 use borrow.Author.Tests.{leb-true, le-leb, lt-leb, eqb-false, eq-eqb, ne-eqb, not-false}
 use lib.Dec.{eqb}
 use Rattle.apportionment.specs.Refusals.{accepted}
-use Rattle.apportionment.specs.Checks.{within, outside, firstRefusal}
+use Rattle.apportionment.specs.Refusals.{within, outside, firstRefusal}
 use Rattle.apportionment.specs.inner.Tests.{either-way}
 
 -- ---- limits

@@ -5,9 +5,9 @@ use mathlib.Core.List.{List}
 use Prim.Native.Nat.{ℕ}
 use native.Mathlib.Omega.{arith}
 use lib.Seq.{length-take-le}
-use Rattle.register.specs.Names.{nameInRow}
-use Rattle.text.specs.inner.Writing.{AtFront, wrote-front}
-use Rattle.text.specs.inner.Handover.{handed-over}
+use Rattle.register.specs.Register.{nameInRow}
+use Rattle.writing.specs.inner.Writing.{AtFront, wrote-front}
+use Rattle.handover.specs.inner.Handover.{handed-over}
 use Rattle.cleaning.specs.Clean.{cleanIn}
 use Rattle.cleaning.specs.inner.Room.{clean-has-room}
 use borrow.Author.Needs.{needs}

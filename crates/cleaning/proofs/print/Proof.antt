@@ -1,7 +1,7 @@
 -- `cleaning::print` meets its contract: the page has room for every clean form and for a refusal's line.
 -- Assumes nothing.
 use native.Mathlib.Omega.{arith}
-use Rattle.text.specs.inner.Handover.{text-printed, refusal-printed}
+use Rattle.handover.specs.inner.Handover.{text-printed, refusal-printed}
 use Rattle.cleaning.specs.inner.Cleaned.{clean-in-page}
 use borrow.Author.Needs.{needs}
 use Rattle.cleaning.proofs.print.Statement.{statement}

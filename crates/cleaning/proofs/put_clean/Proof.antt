@@ -2,8 +2,8 @@
 -- Assumes nothing.
 use mathlib.Core.Path.{sym}
 use lib.Seq.{length-take-le}
-use Rattle.text.specs.inner.Writing.{wrote-on, wrote-then}
-use Rattle.cleaning.specs.Stored.{storedText}
+use Rattle.writing.specs.inner.Writing.{wrote-on, wrote-then}
+use Rattle.cleaning.specs.Clean.{storedText}
 use Rattle.cleaning.specs.Clean.{cleanIn}
 use Rattle.cleaning.specs.inner.Room.{each-read, counted}
 use borrow.Author.Needs.{needs}

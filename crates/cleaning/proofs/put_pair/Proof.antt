@@ -1,6 +1,6 @@
 -- `cleaning::put_pair` meets its contract: its pieces, one after the other.
 -- Assumes nothing.
-use Rattle.text.specs.inner.Writing.{wrote-then}
+use Rattle.writing.specs.inner.Writing.{wrote-then}
 use Rattle.cleaning.specs.inner.Stored.{pair-without-tail}
 use borrow.Author.Needs.{needs}
 use Rattle.cleaning.proofs.put_pair.Statement.{statement}

@@ -6,11 +6,11 @@ use Prim.Native.Nat.{_≤_, _-_}
 use native.Mathlib.Omega.{arith}
 use lib.ListN.{length, take}
 use lib.Seq.{take-all}
-use Rattle.register.specs.Names.{nameInRow}
+use Rattle.register.specs.Register.{nameInRow}
 use Rattle.register.specs.inner.Rows.{placed-at}
-use Rattle.text.specs.Writing.{Wrote}
-use Rattle.text.specs.inner.Writing.{wrote-then, wrote-length}
-use Rattle.cleaning.specs.Stored.{stateLines}
+use Rattle.writing.specs.inner.Writing.{Wrote}
+use Rattle.writing.specs.inner.Writing.{wrote-then, wrote-length}
+use Rattle.cleaning.specs.Clean.{stateLines}
 use Rattle.cleaning.specs.Clean.{noTail}
 use Rattle.cleaning.specs.inner.Stored.{lines-more}
 use borrow.Author.Needs.{needs}

@@ -11,10 +11,10 @@ use Rattle.apportionment.specs.Lists.{sum}
 use Rattle.apportionment.specs.Text.{bytesOf}
 use Rattle.apportionment.specs.declared.Method.{Method}
 use Rattle.register.specs.Register.{readingOf}
-use Rattle.register.specs.Names.{nameOf}
+use Rattle.register.specs.Register.{nameOf}
 use Rattle.register.specs.inner.Written.{Writable, writable-short, LaidOut, readingWith, Written, written-read, written-name}
 use Rattle.text.specs.Shared.{numbersText, headLine}
-use Rattle.cleaning.specs.Stored.{storedText}
+use Rattle.cleaning.specs.Clean.{storedText}
 use Rattle.cleaning.specs.Clean.{noTail}
 use Rattle.cleaning.specs.inner.Stored.{rowsFrom, head-then-rows, row-then-rows, last-row, pair-without-tail}
 use Rattle.cleaning.specs.inner.Room.{clean-length}

@@ -7,13 +7,13 @@ use native.Mathlib.Omega.{arith}
 use lib.ListN.{length}
 use Rattle.apportionment.specs.Refusals.{accepted}
 use Rattle.register.specs.Register.{readingOf, populationsIn}
-use Rattle.register.specs.Names.{rowsOf, nameInRow, nameOf}
+use Rattle.register.specs.Register.{rowsOf, nameInRow, nameOf}
 use Rattle.register.specs.inner.Rows.{name-limited}
 use Rattle.register.specs.inner.Sound.{reading-sound, reading-lined, GoodReading, name-there}
 use Rattle.register.specs.declared.Reading.{Reading}
-use Rattle.text.specs.Handover.{refused, WritingIs}
-use Rattle.text.specs.inner.Handover.{writing-refused}
-use Rattle.text.specs.declared.handover.Written.{Written}
+use Rattle.handover.specs.Handover.{refused, WritingIs}
+use Rattle.handover.specs.inner.Handover.{writing-refused}
+use Rattle.handover.specs.declared.Written.{Written}
 use Rattle.cleaning.specs.Clean.{noTail, cleanIn, cleanOf, CleanIs}
 use Rattle.cleaning.specs.inner.Stored.{stored-agree}
 use Rattle.cleaning.specs.inner.Room.{cleanRoom, Cleanable, counted, clean-has-room}

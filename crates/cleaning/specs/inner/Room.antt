@@ -18,7 +18,7 @@ use Rattle.register.specs.inner.Rows.{nameLimit}
 use Rattle.register.specs.inner.Sound.{ReadingSound}
 use Rattle.register.specs.declared.Reading.{Reading}
 use Rattle.text.specs.inner.Bounds.{decimal-of-sum, head-line-length, lines-length}
-use Rattle.cleaning.specs.Stored.{pairLine, stateLines, storedText}
+use Rattle.cleaning.specs.Clean.{pairLine, stateLines, storedText}
 use Rattle.cleaning.specs.Clean.{noTail, cleanIn}
 use Rattle.cleaning.specs.inner.Stored.{lines-more}
 

@@ -12,7 +12,7 @@ use Rattle.apportionment.specs.Lists.{sum}
 use Rattle.apportionment.specs.Text.{bytesOf, decimal}
 use Rattle.apportionment.specs.declared.Method.{Method}
 use Rattle.text.specs.Shared.{headLine}
-use Rattle.cleaning.specs.Stored.{pairLine, stateLines, storedText}
+use Rattle.cleaning.specs.Clean.{pairLine, stateLines, storedText}
 
 -- ---- writing on
 

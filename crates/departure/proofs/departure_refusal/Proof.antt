@@ -3,8 +3,8 @@
 use mathlib.Core.Path.{_∙_, sym}
 use borrow.Author.Needs.{needs}
 use borrow.Author.Tests.{lt-ltb, le-ltb}
-use Rattle.apportionment.specs.Checks.{firstRefusal}
-use Rattle.departure.specs.Answer.{departureChecks, departureRefusal}
+use Rattle.apportionment.specs.Refusals.{firstRefusal}
+use Rattle.departure.specs.Answer.{departureRefusal}
 use Rattle.departure.proofs.departure_refusal.Statement.{statement}
 use Rattle.departure.proofs.departure_refusal.Tie as tie
 
@@ -12,14 +12,14 @@ outside-requires : tie.Need-outside-requires
 outside-requires c κs = search needs
 
 returns : tie.Need-returns
-unfolding departureRefusal departureChecks firstRefusal
+unfolding departureRefusal firstRefusal
 returns c = simp (sym (c .before .outside .ensures) ∙ c .if1 .taken)
 
 outside-requires-2 : tie.Need-outside-requires-2
 outside-requires-2 c κs = search needs
 
 returns-2 : tie.Need-returns-2
-unfolding departureRefusal departureChecks firstRefusal
+unfolding departureRefusal firstRefusal
 returns-2 c =
     let total = c .before .before in
     simp (sym (total .before .outside .ensures) ∙ total .if1 .left, sym (c .before .outside2 .ensures) ∙ c .if2 .taken)
@@ -28,7 +28,7 @@ outside-requires-3 : tie.Need-outside-requires-3
 outside-requires-3 c κs = search needs
 
 returns-3 : tie.Need-returns-3
-unfolding departureRefusal departureChecks firstRefusal
+unfolding departureRefusal firstRefusal
 returns-3 c =
     let house = c .before .before in
     let total = house .before .before in
@@ -39,7 +39,7 @@ returns-3 c =
     )
 
 returns-4 : tie.Need-returns-4
-unfolding departureRefusal departureChecks firstRefusal
+unfolding departureRefusal firstRefusal
 returns-4 c =
     let people = c .before in
     let house = people .before .before in
@@ -52,7 +52,7 @@ returns-4 c =
     )
 
 returns-5 : tie.Need-returns-5
-unfolding departureRefusal departureChecks firstRefusal
+unfolding departureRefusal firstRefusal
 returns-5 c =
     let people = c .before in
     let house = people .before .before in

@@ -13,13 +13,13 @@ use lib.ListN.{length, getD}
 use borrow.Author.Tests.{ltb-false, le-ltb, eq-eqb, ne-eqb}
 use Rattle.apportionment.specs.Limits.{houseLimit, sumLimit}
 use Rattle.apportionment.specs.Refusals.{accepted, departureOutOfLimits}
-use Rattle.apportionment.specs.Checks.{outside, firstRefusal}
+use Rattle.apportionment.specs.Refusals.{outside, firstRefusal}
 use Rattle.apportionment.specs.inner.Checks.{check-passed, inside-limits, inside-false}
 use Rattle.apportionment.specs.Quantities.{distance, markFor, markOf, shownOf, sizeOf}
 use Rattle.departure.specs.declared.Answer.{Answer}
 use Rattle.departure.specs.declared.Answer.the-variants.{Refused, NoSeats, Shown}
 use Rattle.departure.specs.inner.Exact.{Moderate}
-use Rattle.departure.specs.Answer.{departureChecks, departureRefusal, departureShown, departureMark}
+use Rattle.departure.specs.Answer.{departureRefusal, departureShown, departureMark}
 use Rattle.departure.specs.Answer.{numberOf, shownIn, markIn, AnswerIs}
 
 -- ---- what the operation promises
@@ -60,7 +60,7 @@ pub record AllInLimits (ps seats : List ℕ) (P H : ℕ) : Type 0 where
 
 -- What is not refused is within the limits.
 pub not-refused : (p a P H : ℕ) → departureRefusal p a P H ≡ accepted → InLimits p a P H
-unfolding departureRefusal departureChecks
+unfolding departureRefusal
 not-refused p a P H e =
     let total = check-passed (outside sumLimit P) _ _ (omega arith) e in
     let house = check-passed (outside houseLimit H) _ _ (omega arith) (total .1) in
@@ -78,7 +78,7 @@ not-refused p a P H e =
 
 -- What is within the limits is not refused.
 within-not-refused : (p a P H : ℕ) → InLimits p a P H → departureRefusal p a P H ≡ accepted
-unfolding departureRefusal departureChecks firstRefusal
+unfolding departureRefusal firstRefusal
 within-not-refused p a P H within =
     simp (
       inside-false sumLimit P (within .some-total, within .total-limited),
@@ -89,7 +89,7 @@ within-not-refused p a P H within =
 
 -- A refusal is 30: no other number is given.
 pub refused-is-30 : (p a P H : ℕ) → (departureRefusal p a P H ≡ accepted → ⊥) → departureRefusal p a P H ≡ departureOutOfLimits
-unfolding departureRefusal departureChecks firstRefusal
+unfolding departureRefusal firstRefusal
 refused-is-30 p a P H = by-tests (outside sumLimit P) (outside houseLimit H) (outside P p) (ltb H a)
   where
     by-tests : (s t u v : Bool)

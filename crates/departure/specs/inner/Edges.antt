@@ -10,7 +10,7 @@ use native.Mathlib.Nat.{add-mul, mul-assoc, mul-left-comm, one-mul, div-add-mod'
 use native.Mathlib.Numerals.{add-one}
 use native.Mathlib.Omega.{arith}
 use lib.IntN.{ℤ, pos, negsuc, negℤ}
-use Rattle.apportionment.specs.Checks.{within, outside, firstRefusal}
+use Rattle.apportionment.specs.Refusals.{within, outside, firstRefusal}
 use Rattle.apportionment.specs.inner.Tests.{cond-both}
 use Rattle.apportionment.specs.Quantities.{Fraction, atMost, distance, isBelow, markFor, markOf, nearestWhole, sizeOf}
 use Rattle.apportionment.specs.Quantities.{shownOf, shownScale, shownSize}
@@ -18,7 +18,7 @@ use Rattle.apportionment.specs.declared.Mark.{Mark}
 use Rattle.apportionment.specs.declared.Mark.the-variants.{In, High, Over}
 use Rattle.departure.specs.declared.Answer.{Answer}
 use Rattle.departure.specs.declared.Answer.the-variants.{Refused, NoSeats, Shown}
-use Rattle.departure.specs.Answer.{departureChecks, departureMark, departureRefusal, departureShown, markIn, numberOf, shownIn}
+use Rattle.departure.specs.Answer.{departureMark, departureRefusal, departureShown, markIn, numberOf, shownIn}
 
 -- ---- the nearest
 
@@ -135,6 +135,6 @@ atTheEdges =
 
 -- Each input gives what is wanted: antt computes them.
 pub edges-hold : map given atTheEdges ≡ map wanted atTheEdges
-unfolding given wanted atTheEdges departureRefusal departureShown departureMark numberOf shownIn markIn departureChecks firstRefusal outside
+unfolding given wanted atTheEdges departureRefusal departureShown departureMark numberOf shownIn markIn firstRefusal outside
     within shownOf isBelow shownSize sizeOf distance nearestWhole markFor markOf atMost
 edges-hold = refl

@@ -5,7 +5,7 @@ use borrow.Author.Needs.{needs}
 use borrow.Author.Tests.{lt-ltb}
 use Rattle.desk.proofs.desk_allot.Statement.{statement}
 use Rattle.desk.specs.inner.Allotting.{by-method}
-use Rattle.desk.specs.Allotting.{allottedBy, seatsBy}
+use Rattle.desk.specs.Interface.{allottedBy, seatsBy}
 use Rattle.desk.proofs.desk_allot.Tie as tie
 
 returns : tie.Need-returns

@@ -3,7 +3,7 @@
 use mathlib.Core.Path.{_∙_, ap}
 use borrow.Author.Needs.{needs}
 use Rattle.cleaning.specs.Clean.{cleanedOf}
-use Rattle.desk.specs.Exported.{exportedWritten}
+use Rattle.desk.specs.Interface.{exportedWritten}
 use Rattle.desk.proofs.desk_clean.Statement.{statement}
 use Rattle.desk.proofs.desk_clean.Tie as tie
 

@@ -3,7 +3,7 @@
 use mathlib.Core.Path.{_∙_, ap}
 use borrow.Author.Needs.{needs}
 use Rattle.listing.specs.Listing.{listedOf}
-use Rattle.desk.specs.Exported.{exportedWritten}
+use Rattle.desk.specs.Interface.{exportedWritten}
 use Rattle.desk.proofs.desk_listing.Statement.{statement}
 use Rattle.desk.proofs.desk_listing.Tie as tie
 

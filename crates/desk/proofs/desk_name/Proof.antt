@@ -3,10 +3,10 @@
 -- Assumes nothing.
 use borrow.Author.Needs.{needs}
 use borrow.Author.Tests.{eq-eqb, ne-eqb}
-use Rattle.register.specs.Names.{rowsOf}
+use Rattle.register.specs.Register.{rowsOf}
 use Rattle.register.specs.inner.Rows.{name-of-first}
 use Rattle.desk.proofs.desk_name.Statement.{statement}
-use Rattle.desk.specs.Part.{partIf, partOf, stateLine}
+use Rattle.desk.specs.Interface.{partOf}
 use Rattle.desk.specs.inner.Part.{line-shorter}
 use Rattle.desk.proofs.desk_name.Tie as tie
 
@@ -14,7 +14,7 @@ name-refusal-requires : tie.Need-name-refusal-requires
 name-refusal-requires c κs = search needs
 
 returns : tie.Need-returns
-unfolding partOf partIf
+unfolding partOf
 returns c =
     rw (
       rw (c .before .before .name-refusal .ensures) at (ne-eqb _ _ (c .if1 .taken)),
@@ -31,14 +31,13 @@ first-name-requires : tie.Need-first-name-requires
 first-name-requires c κs = search needs
 
 sub-start : tie.Need-sub-start
-unfolding stateLine
 sub-start c =
     let at-of = c .before .before in
     let start = at-of .before .before .before .before .before in
     rw (c .before .after .ensures, at-of .of .ensures) (line-shorter (start .args .bytes .now) (start .args .place))
 
 returns-2 : tie.Need-returns-2
-unfolding partOf partIf stateLine
+unfolding partOf
 returns-2 c =
     let at-of = c .before .before in
     let at-if1 = at-of .before in

@@ -3,7 +3,7 @@
 use mathlib.Core.Path.{_∙_, ap}
 use borrow.Author.Needs.{needs}
 use Rattle.desk.proofs.desk_read.Statement.{statement}
-use Rattle.desk.specs.Exported.{exportedReading}
+use Rattle.desk.specs.Interface.{exportedReading}
 use Rattle.desk.proofs.desk_read.Tie as tie
 
 read-requires : tie.Need-read-requires

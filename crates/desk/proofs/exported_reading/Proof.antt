@@ -2,7 +2,7 @@
 -- Assumes nothing.
 use borrow.Author.Needs.{needs}
 use Rattle.desk.proofs.exported_reading.Statement.{statement}
-use Rattle.desk.specs.Exported.{exportedReading}
+use Rattle.desk.specs.Interface.{exportedReading}
 use Rattle.desk.proofs.exported_reading.Tie as tie
 
 number-requires : tie.Need-number-requires

@@ -10,8 +10,8 @@ use mir.ValLaws.{toZ-ofZ}
 use Rattle.apportionment.specs.Refusals.{accepted}
 use Rattle.apportionment.specs.declared.Mark.{Mark}
 use Rattle.desk.specs.declared.DeskShown.{DeskShown}
-use Rattle.desk.specs.Numbers.{markNumber}
-use Rattle.desk.specs.Exported.{exportedShown}
+use Rattle.desk.specs.Interface.{markNumber}
+use Rattle.desk.specs.Interface.{exportedShown}
 use Rattle.desk.proofs.exported_shown.Statement.{statement}
 use Rattle.desk.proofs.exported_shown.Tie as tie
 

@@ -1,11 +1,11 @@
--- Laws of what Exported.antt defines, which proofs cite.
+-- Laws of the records of the C interface, which proofs cite.
 -- Assumes nothing.
 use mathlib.Core.Path.{_≡_}
 use Prim.Native.Nat.{ℕ}
 use Rattle.departure.specs.Answer.{AnswerIs, numberOf, shownIn, markIn}
 use Rattle.departure.specs.declared.Answer.{Answer}
 use Rattle.desk.specs.declared.DeskShown.{DeskShown}
-use Rattle.desk.specs.Exported.{exportedShown, exportedDeparture}
+use Rattle.desk.specs.Interface.{exportedShown, exportedDeparture}
 
 -- That record from an answer's number and values, and from those of the operation.
 unfoldable pub exportedAnswer : Answer → DeskShown

@@ -8,13 +8,13 @@ use native.Mathlib.Nat.{pow-suc, pow-le-pow-right, lt-of-lt-of-le}
 use native.Mathlib.Numerals.{add-one}
 use native.Mathlib.Omega.{arith}
 use lib.ListN.{length, getD, drop, drop-of-length-le}
-use Rattle.apportionment.specs.Checks.{within}
+use Rattle.apportionment.specs.Refusals.{within}
 use Rattle.apportionment.specs.Lists.{sameList}
 use Rattle.apportionment.specs.Methods.{methods, methodText, methodAt, lastMethod}
 use Rattle.apportionment.specs.inner.Methods.{methods-from}
 use Rattle.fields.specs.inner.Tests.{both}
 use Rattle.apportionment.specs.inner.Checks.{within-limits}
-use Rattle.fields.specs.Parts.{allBetween}
+use Rattle.fields.specs.Grammar.{allBetween}
 use Rattle.fields.specs.inner.Parts.{drop-step, between-at}
 use Rattle.fields.specs.Grammar.{lastByte, withoutReturn, digitLimit, isNumber, valueFrom, wordLimit, isName, firstNamed}
 use Rattle.fields.specs.declared.Named.the-variants.{Known, Unknown}

@@ -1,4 +1,4 @@
--- Laws of what Parts.antt defines, which proofs cite.
+-- Laws of parts of a run of bytes, which proofs cite.
 -- Assumes nothing.
 use mathlib.Core.Path.{_≡_, refl}
 use mathlib.Core.Bool.{and-false, true, false, cond}
@@ -13,7 +13,7 @@ use lib.Seq.{drop-cons}
 use Rattle.apportionment.specs.Lists.{sameList}
 use Rattle.apportionment.specs.inner.Tests.{cond-both}
 use Rattle.fields.specs.inner.Tests.{both}
-use Rattle.fields.specs.Parts.{placeOf, allBetween}
+use Rattle.fields.specs.Grammar.{placeOf, allBetween}
 
 -- What is left from place i on is the byte there and what is left from the next place on.
 pub drop-step : (s : List ℕ) (i : ℕ) → i < length s → drop i s ≡ getD s i 0 ∷ drop (i + 1) s

@@ -12,14 +12,14 @@ use lib.Seq.{take-append-seam, drop-append-add}
 use Rattle.apportionment.specs.Text.{decimal, digit}
 use Rattle.apportionment.specs.Methods.{methodText}
 use Rattle.apportionment.specs.Lists.{sameList}
-use Rattle.apportionment.specs.Checks.{within}
+use Rattle.apportionment.specs.Refusals.{within}
 use Rattle.apportionment.specs.inner.Tests.{either-way}
 use Rattle.apportionment.specs.inner.Checks.{within-true}
 use Rattle.apportionment.specs.inner.Decimal.{decimal-by-digits, decimal-length, decimal-some}
 use Rattle.apportionment.specs.inner.Methods.{every-method}
 use Rattle.apportionment.specs.declared.Method.{Method}
 use Rattle.apportionment.specs.declared.Method.the-variants.{Leximin, Adams, Dean, Hill, Webster, Jefferson, Remainders, Quota}
-use Rattle.fields.specs.Parts.{placeOf, has, before, after, allBetween}
+use Rattle.fields.specs.Grammar.{placeOf, has, before, after, allBetween}
 use Rattle.fields.specs.Grammar.{lineFeed, carriageReturn, comma, blank, ended, lastByte, withoutReturn, lineOf, restOf}
 use Rattle.fields.specs.Grammar.{fieldOf, fieldsAfter, isName}
 use Rattle.fields.specs.Grammar.{digitLimit, isNumber, valueFrom, valueOf, wordLimit, isMethodField, firstNamed, methodNamed}

@@ -9,7 +9,7 @@ use lib.Dec.{eqb}
 use lib.ListN.{length}
 use Rattle.apportionment.specs.Refusals.{accepted, lineIllFormed}
 use Rattle.apportionment.specs.inner.Tests.{either-way}
-use Rattle.fields.specs.Parts.{placeOf}
+use Rattle.fields.specs.Grammar.{placeOf}
 use Rattle.fields.specs.Grammar.{lineFeed}
 use Rattle.lines.specs.Lines.{nameAt, numberAt, isStateLine, usedIn, stateRefusal}
 use Rattle.lines.specs.inner.Lines.{entryRefusal, state-by-parts}

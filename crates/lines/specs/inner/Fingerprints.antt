@@ -10,7 +10,7 @@ use borrow.Author.Tests.{eq-eqb, ne-eqb}
 use lib.Dec.{eqb, leb}
 use lib.ListN.{length, getD, take, drop, drop-of-length-le}
 use Rattle.apportionment.specs.inner.Tests.{either-way}
-use Rattle.fields.specs.Parts.{placeOf, before, allBetween}
+use Rattle.fields.specs.Grammar.{placeOf, before, allBetween}
 use Rattle.fields.specs.inner.Parts.{drop-step}
 use Rattle.fields.specs.Grammar.{comma, fieldOf}
 use Rattle.lines.specs.declared.fingerprints.Field.{Field}

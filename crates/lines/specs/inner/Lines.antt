@@ -10,7 +10,7 @@ use borrow.Author.Tests.{eqb-true, eqb-false, ltb-false, not-false}
 use lib.Dec.{ltb, eqb}
 use Rattle.apportionment.specs.Limits.{stateLimit, houseLimit, sumLimit}
 use Rattle.apportionment.specs.Refusals.{accepted, lineIllFormed, numberOutOfLimits, methodUnknown, nameUsed, runningSumTooLarge}
-use Rattle.apportionment.specs.Checks.{outside, firstRefusal}
+use Rattle.apportionment.specs.Refusals.{outside, firstRefusal}
 use Rattle.apportionment.specs.inner.Checks.{inside-limits, check-passed}
 use Rattle.apportionment.specs.inner.Tests.{either-way}
 use Rattle.apportionment.specs.Lists.{sameList}
@@ -20,7 +20,7 @@ use Rattle.fields.specs.inner.Tests.{both}
 use Rattle.fields.specs.Grammar.{ended, lineOf, fieldOf, isNumber, valueOf, isName, isMethodField, methodNamed}
 use Rattle.lines.specs.Lines.{methodField, houseField, countField, headFormed, isHead, isUnknown}
 use Rattle.lines.specs.Lines.{headRefusal, headRefused, headRead, headOf}
-use Rattle.lines.specs.Lines.{nameAt, numberField, numberAt, pairFormed, isPair, usedIn, isStateLine, isClosingLine, stateRefusal}
+use Rattle.lines.specs.Lines.{nameAt, numberField, numberAt, pairFormed, usedIn, isStateLine, isClosingLine, stateRefusal}
 use Rattle.lines.specs.declared.head.Head.{Head}
 
 -- ---- tests made at once are tests made one after the other
@@ -105,8 +105,9 @@ head-sound s good =
 
 -- ---- a line of two fields: a state's, or the closing one
 
-pub pair-parts : (passes : Bool) (s : List ℕ) → isPair passes s ≡ true → (passes ≡ true) × (isNumber (numberField s) ≡ true)
-unfolding isPair pairFormed
+pub pair-parts : (passes : Bool) (s : List ℕ) → pairFormed (ended s) passes (numberField s) ≡ true
+    → (passes ≡ true) × (isNumber (numberField s) ≡ true)
+unfolding pairFormed
 pair-parts passes s pair = both passes _ (both (ended s) _ pair .1)
 
 pub state-parts : (s : List ℕ) → isStateLine s ≡ true → (isName (nameAt s) ≡ true) × (isNumber (numberField s) ≡ true)

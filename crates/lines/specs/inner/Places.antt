@@ -16,7 +16,7 @@ use Rattle.apportionment.specs.Limits.{stateLimit}
 use Rattle.apportionment.specs.Lists.{sameList}
 use Rattle.apportionment.specs.inner.Lists.{same-list-equal}
 use Rattle.apportionment.specs.inner.Tests.{cond-both, either-way}
-use Rattle.fields.specs.Parts.{placeOf, before, after}
+use Rattle.fields.specs.Grammar.{placeOf, before, after}
 use Rattle.fields.specs.Grammar.{lineFeed, comma, restOf, lineOf, lastByte, carriageReturn, withoutReturn, fieldOf}
 use Rattle.lines.specs.Lines.{nameAt, usedIn}
 use Rattle.lines.specs.inner.Fingerprints.{fingerprintOf, holds, holds-not}

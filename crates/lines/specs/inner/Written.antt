@@ -8,19 +8,19 @@ use native.Mathlib.Omega.{arith}
 use borrow.Author.Tests.{eq-eqb, le-ltb}
 use Rattle.apportionment.specs.Limits.{stateLimit, houseLimit, sumLimit}
 use Rattle.apportionment.specs.Refusals.{accepted}
-use Rattle.apportionment.specs.Checks.{firstRefusal}
+use Rattle.apportionment.specs.Refusals.{firstRefusal}
 use Rattle.apportionment.specs.Text.{bytesOf, decimal}
 use Rattle.apportionment.specs.Methods.{methodText}
 use Rattle.apportionment.specs.inner.Checks.{inside-false}
 use Rattle.apportionment.specs.inner.Lists.{same-list-self}
 use Rattle.apportionment.specs.declared.Method.{Method}
-use Rattle.fields.specs.Parts.{allBetween}
+use Rattle.fields.specs.Grammar.{allBetween}
 use Rattle.fields.specs.Grammar.{digitLimit, lineFeed, comma, ended, lineOf, restOf, fieldOf, isName}
 use Rattle.fields.specs.inner.Written.{Without, Printable, Starts, between-append, line-written, field-written, field-without-comma}
 use Rattle.fields.specs.inner.Written.{value-written, number-written, number-printable, number-without-comma}
 use Rattle.fields.specs.inner.Written.{method-field-written, method-printable, method-without-comma, method-written}
 use Rattle.lines.specs.Lines.{methodField, houseField, countField, headFormed, isHead, isUnknown, methodIn}
-use Rattle.lines.specs.Lines.{headRefusal, headRead, headOf, nameAt, numberField, numberAt, pairFormed, isPair, usedIn}
+use Rattle.lines.specs.Lines.{headRefusal, headRead, headOf, nameAt, numberField, numberAt, pairFormed, usedIn}
 use Rattle.lines.specs.Lines.{isStateLine, isClosingLine, stateRefusal, closingRefusal}
 
 -- Text, a comma, and more text may stand in a line if both may.
@@ -63,8 +63,8 @@ module _ {s name : List ℕ} {p : ℕ} {rest : List ℕ} (pair : Pair s name (de
   unfolding numberAt
   pair-number = rw (pair .digits) (value-written p (omega arith))
 
-  pub pair-formed : isPair true s ≡ true
-  unfolding isPair pairFormed
+  pub pair-formed : pairFormed (ended s) true (numberField s) ≡ true
+  unfolding pairFormed
   pair-formed = rw (pair .closed, pair .digits) (number-written p (omega arith))
 
   -- A state's line whose name was not used before, and whose population fits the sum so far.

@@ -4,11 +4,11 @@ use mathlib.Core.Path.{refl, sym}
 use mathlib.Core.List.{List}
 use Prim.Native.Nat.{ℕ}
 use lib.Seq.{length-take-le}
-use Rattle.register.specs.Names.{nameInRow}
-use Rattle.text.specs.inner.Writing.{AtFront, wrote-front}
+use Rattle.register.specs.Register.{nameInRow}
+use Rattle.writing.specs.inner.Writing.{AtFront, wrote-front}
 use Rattle.listing.specs.Listing.{listingIn}
 use Rattle.listing.specs.inner.Room.{listing-has-room}
-use Rattle.text.specs.inner.Handover.{handed-over}
+use Rattle.handover.specs.inner.Handover.{handed-over}
 use borrow.Author.Needs.{needs}
 use Rattle.listing.proofs.list_seats.Statement.{statement}
 use Rattle.listing.proofs.list_seats.Tie as tie

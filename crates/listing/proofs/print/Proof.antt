@@ -1,7 +1,7 @@
 -- `listing::print` meets its contract: the page has room for every listing and for a refusal's line.
 -- Assumes nothing.
 use native.Mathlib.Omega.{arith}
-use Rattle.text.specs.inner.Handover.{text-printed, refusal-printed}
+use Rattle.handover.specs.inner.Handover.{text-printed, refusal-printed}
 use Rattle.listing.specs.inner.Listed.{listing-in-page}
 use borrow.Author.Needs.{needs}
 use Rattle.listing.proofs.print.Statement.{statement}

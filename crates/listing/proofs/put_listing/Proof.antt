@@ -3,7 +3,7 @@
 use native.Mathlib.Omega.{arith}
 use mathlib.Core.Path.{sym}
 use lib.Seq.{length-take-le}
-use Rattle.text.specs.inner.Writing.{wrote-on, wrote-then}
+use Rattle.writing.specs.inner.Writing.{wrote-on, wrote-then}
 use Rattle.problem.specs.inner.Total.{total-is-sum}
 use Rattle.listing.specs.Listing.{listingIn}
 use Rattle.listing.specs.inner.Room.{listable-rows}

@@ -9,18 +9,18 @@ use Rattle.apportionment.specs.Quantities.{less, atMost, distance, sizeOf, isBe
 use Rattle.apportionment.specs.Quantities.{shownText, departureText, markOf, markFor, markText}
 use Rattle.apportionment.specs.Leximin.{sizesOf, insert, largestFirst, listLess, moreAtFirst, sizeList, chosenBefore, withFirst}
 use Rattle.apportionment.specs.Leximin.{allotments, firstOf, firstOfAll, leximinFor}
-use Rattle.apportionment.specs.Checks.{within, outside, firstRefusal}
+use Rattle.apportionment.specs.Refusals.{within, outside, firstRefusal}
 use Rattle.apportionment.specs.Allotment.{statesOutside, houseOutside, hasZero, sumOutside, listMisfits, seatsTooFew}
 use Rattle.apportionment.specs.Allotment.{problemChecks, allotRefusal, seatsOf}
 use Rattle.register.specs.Register.{readingOf}
-use Rattle.register.specs.Names.{nameOf}
+use Rattle.register.specs.Register.{nameOf}
 use Rattle.register.specs.inner.Examples.{example, exampleReading, exampleName, examples-hold, example-named}
 use Rattle.register.specs.declared.Reading.{Reading}
 use Rattle.apportionment.specs.Methods.{methodText}
 use Rattle.text.specs.Shared.{numbersText, headLine, totalLine}
-use Rattle.text.specs.Handover.{printedOf}
+use Rattle.handover.specs.Handover.{printedOf}
 use Rattle.listing.specs.Listing.{stateLine, stateLines, seatsIn, listingIn, listingOf}
-use Rattle.listing.specs.Listing.{allotRefusalIn, listRefusalIn, listingPrinted}
+use Rattle.listing.specs.Listing.{listRefusalIn, listingPrinted}
 use Rattle.listing.specs.inner.Rows.{same-listing}
 
 abbrev exampleListing : List ℕ
@@ -50,7 +50,7 @@ listing-is =
 -- .. which is not refused, so that the program prints it.
 printed-by-parts : (r : Reading) (text : List ℕ) → r ≡ exampleReading → text ≡ exampleListing
     → printedOf (listRefusalIn r) (r .line) text ≡ exampleListing
-unfolding printedOf listRefusalIn allotRefusalIn sum within outside firstRefusal statesOutside houseOutside hasZero sumOutside listMisfits
+unfolding printedOf listRefusalIn sum within outside firstRefusal statesOutside houseOutside hasZero sumOutside listMisfits
     seatsTooFew problemChecks allotRefusal
 printed-by-parts r text reading listing = rw (reading, listing)
 

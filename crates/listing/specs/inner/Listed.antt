@@ -12,25 +12,29 @@ use lib.Seq.{length-take-le}
 use Rattle.apportionment.specs.inner.Tests.{either-way}
 use Rattle.apportionment.specs.Refusals.{accepted}
 use Rattle.apportionment.specs.inner.Lists.{entry-at-most-sum}
-use Rattle.apportionment.specs.Allotment.{seatsAfter}
+use Rattle.apportionment.specs.Allotment.{allotRefusal, seatsAfter}
 use Rattle.problem.specs.inner.Passed.{Allottable, allot-passed}
 use Rattle.allot.specs.declared.Allotted.{Allotted}
-use Rattle.allot.specs.Allot.{allottedOf, AllotmentIs}
+use Rattle.allot.specs.Allot.{AllotmentIs}
 use Rattle.departure.specs.inner.Answer.{InLimits}
-use Rattle.text.specs.Handover.{refused, WritingIs}
-use Rattle.text.specs.inner.Handover.{writing-refused}
-use Rattle.text.specs.declared.handover.Written.{Written}
+use Rattle.handover.specs.Handover.{refused, WritingIs}
+use Rattle.handover.specs.inner.Handover.{writing-refused}
+use Rattle.handover.specs.declared.Written.{Written}
 use Rattle.register.specs.Register.{readingOf, populationsIn}
 use Rattle.register.specs.declared.Reading.{Reading}
-use Rattle.register.specs.Names.{rowsOf, nameInRow}
+use Rattle.register.specs.Register.{rowsOf, nameInRow}
 use Rattle.register.specs.inner.Sound.{ReadingSound, reading-sound, reading-lined, GoodReading}
 use Rattle.register.specs.inner.Rows.{name-limited}
-use Rattle.listing.specs.Listing.{seatsIn, listingIn, listingOf, allotRefusalIn, listRefusalIn, ListingIs}
+use Rattle.listing.specs.Listing.{seatsIn, listingIn, listingOf, listRefusalIn, ListingIs}
 use Rattle.listing.specs.inner.Rows.{listing-by-rows}
 use Rattle.allot.specs.inner.Shared.{Shared, allotment-shared}
 use Rattle.listing.specs.inner.Room.{AllListable, listingRoom, listing-has-room}
 
 -- ---- what is not refused may be listed
+
+-- Allotting's refusal of what was read.
+abbrev allotRefusalIn : Reading → ℕ
+allotRefusalIn r = allotRefusal (r .method) (r .house) (populationsIn r) (r .states)
 
 module _ (s : List ℕ) (good : readingOf s .refusal ≡ accepted) (allotted : allotRefusalIn (readingOf s) ≡ accepted) where
   sound : ReadingSound (readingOf s)
@@ -43,7 +47,6 @@ module _ (s : List ℕ) (good : readingOf s .refusal ≡ accepted) (allotted : a
   counted = length-take-le _ _ each-read
 
   passed : Allottable (readingOf s .method) (readingOf s .house) (populationsIn (readingOf s)) (readingOf s .states)
-  unfolding allotRefusalIn
   passed = allot-passed _ _ _ _ allotted
 
   shared : Shared (readingOf s .states) (readingOf s .house) (seatsIn (readingOf s))
@@ -111,7 +114,6 @@ listing-in-page s enough none =
 module _ {s : List ℕ} {r : Reading} (read : GoodReading s r) {before after : List ℕ} {a : Allotted} (each : length before ≡ r .states)
     (allotted : AllotmentIs (r .method) (r .house) (populationsIn r) before after a) where
   refusal-told : a .refusal ≡ allotRefusalIn r
-  unfolding allotRefusalIn allottedOf
   refusal-told = ap (λ (x : Allotted). x .refusal) (allotted .outcome) ∙ rw each
 
   told-good : readingOf s .refusal ≡ accepted
@@ -128,7 +130,7 @@ module _ {s : List ℕ} {r : Reading} (read : GoodReading s r) {before after : L
     told-accepted = rw (read .reading) at (sym refusal-told ∙ none)
 
     told-seats : after ≡ seatsIn r
-    unfolding seatsIn seatsAfter allotRefusalIn
+    unfolding seatsIn seatsAfter
     told-seats = allotted .seats ∙ rw (each, eq-eqb _ _ (sym refusal-told ∙ none))
 
     -- What it allots may be listed ..

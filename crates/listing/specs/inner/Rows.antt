@@ -8,7 +8,7 @@ use native.Mathlib.Omega.{arith}
 use lib.ListN.{getD}
 use Rattle.apportionment.specs.Refusals.{accepted}
 use Rattle.register.specs.Register.{readingOf, populationsIn}
-use Rattle.register.specs.Names.{rowsOf, nameInRow, nameOf}
+use Rattle.register.specs.Register.{rowsOf, nameInRow, nameOf}
 use Rattle.register.specs.inner.Sound.{name-there}
 use Rattle.register.specs.declared.Reading.{Reading}
 use Rattle.listing.specs.Listing.{stateLine, stateLines, seatsIn, listingIn, listingOf}

@@ -19,8 +19,8 @@ use Rattle.problem.specs.inner.Passed.{Openable, open-passed}
 use Rattle.problem.specs.inner.Total.{cappedTotal}
 use Rattle.leximin.specs.inner.Moves.{movedTimes, none-moved, moved-again, Room, Movable}
 use Rattle.apportionment.specs.inner.Tests.{cond-both, either-way}
+use Rattle.agreement.specs.inner.Agreement.{lex-states}
 use Rattle.placing.specs.Placing.{padded, placingAt, peopleOf}
-use Rattle.placing.specs.inner.Genuine.{lex-states}
 use Rattle.placing.specs.inner.Telling.{Genuine, genuine-passes, record-equal, placingOf, opened-problem}
 use Rattle.placing.specs.declared.Placing.{Placing}
 

@@ -19,9 +19,10 @@ use Rattle.problem.specs.inner.Passed.{open-passed}
 use Rattle.problem.specs.inner.Total.{cappedTotal, total-is-sum}
 use Rattle.apportionment.specs.inner.Tests.{either-way}
 use Rattle.apportionment.specs.inner.Problem.{Problem}
+use Rattle.agreement.specs.inner.Lists.{allZero}
+use Rattle.agreement.specs.inner.Agreement.{and-both, stepsAgree, seatsAgree, agreeing, lex-states, lex-agrees, agreed-seats}
 use Rattle.placing.specs.Placing.{padded, placingAt, peopleOf, samePlacing, genuine, movable, movedOf}
-use Rattle.placing.specs.inner.Lists.{allZero, padded-first, take-padded, zeros-past-padded}
-use Rattle.placing.specs.inner.Genuine.{and-both, stepsAgree, seatsAgree, agreeing, lex-states, lex-agrees, agreed-seats}
+use Rattle.placing.specs.inner.Lists.{padded-first, take-padded, zeros-past-padded}
 use Rattle.placing.specs.declared.Placing.{Placing}
 
 -- ---- placings that agree are equal

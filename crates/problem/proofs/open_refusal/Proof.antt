@@ -3,7 +3,7 @@
 use mathlib.Core.Path.{_∙_, sym}
 use borrow.Author.Needs.{needs}
 use borrow.Author.Tests.{eq-eqb, ne-eqb}
-use Rattle.apportionment.specs.Checks.{firstRefusal}
+use Rattle.apportionment.specs.Refusals.{firstRefusal}
 use Rattle.apportionment.specs.Allotment.{openRefusal}
 use Rattle.problem.specs.inner.Passed.{problem-then}
 use Rattle.problem.proofs.open_refusal.Statement.{statement}

@@ -2,7 +2,7 @@
 -- Assumes nothing.
 use mathlib.Core.Path.{_∙_, sym}
 use borrow.Author.Needs.{needs}
-use Rattle.apportionment.specs.Checks.{firstRefusal}
+use Rattle.apportionment.specs.Refusals.{firstRefusal}
 use Rattle.apportionment.specs.Allotment.{problemChecks}
 use Rattle.problem.specs.inner.Passed.{problemRefusal}
 use Rattle.problem.proofs.problem_refusal.Statement.{statement}

@@ -11,7 +11,7 @@ use lib.ListN.{length}
 use borrow.Author.Tests.{eqb-true, eqb-false, ltb-false, not-false}
 use Rattle.apportionment.specs.Limits.{stateLimit, houseLimit, sumLimit}
 use Rattle.apportionment.specs.Refusals.{accepted, statesOutOfLimits, houseOutOfLimits, populationZero, sumTooLarge}
-use Rattle.apportionment.specs.Checks.{firstRefusal}
+use Rattle.apportionment.specs.Refusals.{firstRefusal}
 use Rattle.apportionment.specs.inner.Checks.{inside-limits, check-passed}
 use Rattle.apportionment.specs.inner.Problem.{Problem, Fillable}
 use Rattle.apportionment.specs.inner.Tests.{either-way}

@@ -2,7 +2,7 @@
 -- Assumes nothing.
 use mathlib.Core.Path.{_∙_}
 use borrow.Author.Tests.{eq-eqb, ne-eqb}
-use Rattle.register.specs.Names.{nameOf}
+use Rattle.register.specs.Register.{nameOf}
 use borrow.Author.Needs.{needs}
 use Rattle.register.proofs.name.Statement.{statement}
 use Rattle.register.proofs.name.Tie as tie

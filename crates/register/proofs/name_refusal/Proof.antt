@@ -1,7 +1,7 @@
 -- `name_refusal` hands on reading's refusal, or tests the place.
 -- Assumes nothing.
 use borrow.Author.Tests.{lt-ltb, le-ltb, eq-eqb, ne-eqb}
-use Rattle.register.specs.Names.{nameRefusalOf, nameRefusalIn}
+use Rattle.register.specs.Register.{nameRefusalOf, nameRefusalIn}
 use borrow.Author.Needs.{needs}
 use Rattle.register.proofs.name_refusal.Statement.{statement}
 use Rattle.register.proofs.name_refusal.Tie as tie

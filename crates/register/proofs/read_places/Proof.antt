@@ -12,7 +12,7 @@ use Rattle.lines.specs.Lines.{headOf}
 use Rattle.lines.specs.inner.Lines.{head-sound}
 use Rattle.lines.specs.inner.Places.{rest-is-end}
 use Rattle.register.specs.Register.{refused, readingOf, linesOf, statesOf}
-use Rattle.register.specs.Names.{rowsOf}
+use Rattle.register.specs.Register.{rowsOf}
 use Rattle.register.specs.inner.Sound.{reading-counted}
 use Rattle.register.specs.inner.Rows.{Placed}
 use borrow.Author.Needs.{needs}

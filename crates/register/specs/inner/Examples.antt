@@ -9,17 +9,17 @@ use Rattle.apportionment.specs.Limits.{stateLimit}
 use Rattle.apportionment.specs.Refusals.{accepted, lineIllFormed, numberOutOfLimits}
 use Rattle.apportionment.specs.Lists.{sameList}
 use Rattle.apportionment.specs.Text.{bytesOf}
-use Rattle.apportionment.specs.Checks.{within, outside, firstRefusal}
+use Rattle.apportionment.specs.Refusals.{within, outside, firstRefusal}
 use Rattle.apportionment.specs.declared.Method.the-variants.{Leximin}
-use Rattle.fields.specs.Parts.{placeOf, has, before, after, allBetween}
+use Rattle.fields.specs.Grammar.{placeOf, has, before, after, allBetween}
 use Rattle.apportionment.specs.Methods.{methodText}
 use Rattle.fields.specs.Grammar.{lineFeed, ended, lastByte, withoutReturn, lineOf, restOf, fieldOf, fieldsAfter, isNumber, valueFrom}
 use Rattle.fields.specs.Grammar.{valueOf, isName, isMethodField, firstNamed, methodNamed}
 use Rattle.lines.specs.Lines.{methodField, houseField, countField, headFormed, isHead, headRefused, headOf, nameAt, numberField, numberAt}
-use Rattle.lines.specs.Lines.{pairFormed, isPair, isStateLine, isClosingLine, usedIn, stateRefusal, closingRefusal}
+use Rattle.lines.specs.Lines.{pairFormed, isStateLine, isClosingLine, usedIn, stateRefusal, closingRefusal}
 use Rattle.lines.specs.Lines.{isUnknown, methodIn, headRefusal, headRead}
 use Rattle.register.specs.Register.{noPopulations, refused, accepts, endOf, closingOf, statesFrom, statesOf, linesOf, readingOf}
-use Rattle.register.specs.Names.{rowsOf, linesAfter, nameInRow, nameRefusalIn, nameRefusalOf, nameOf}
+use Rattle.register.specs.Register.{rowsOf, linesAfter, nameInRow, nameRefusalIn, nameRefusalOf, nameOf}
 use Rattle.register.specs.inner.Sound.{name-there}
 use Rattle.register.specs.declared.Reading.{Reading}
 
@@ -68,7 +68,7 @@ pub examples-hold :
     × (readingOf zeroPopulation ≡ refused numberOutOfLimits 3)
 unfolding sameList within outside firstRefusal placeOf has before after allBetween ended lastByte withoutReturn lineOf restOf fieldOf
     fieldsAfter isNumber valueFrom valueOf isName isMethodField methodText firstNamed methodNamed methodField houseField countField
-    headFormed isHead isUnknown methodIn headRefusal headRefused headRead headOf nameAt numberField numberAt pairFormed isPair
+    headFormed isHead isUnknown methodIn headRefusal headRefused headRead headOf nameAt numberField numberAt pairFormed
     isStateLine isClosingLine usedIn stateRefusal closingRefusal noPopulations refused accepts endOf closingOf statesFrom statesOf
     linesOf readingOf linesAfter nameRefusalIn nameRefusalOf nameOf
 examples-hold = (refl, refl, refl, refl)

@@ -14,7 +14,7 @@ use Rattle.fields.specs.Grammar.{restOf}
 use Rattle.lines.specs.Lines.{nameAt}
 use Rattle.lines.specs.inner.Fingerprints.{fingerprintOf}
 use Rattle.lines.specs.inner.Places.{EndOf, drop-is-end, end-of-end, rest-is-end, name-is-front, nameOn, partOf, Stands, NamesAt, NamesKept}
-use Rattle.register.specs.Names.{linesAfter}
+use Rattle.register.specs.Register.{linesAfter}
 use Rattle.register.specs.inner.Names.{lines-next}
 
 -- ---- what is left after k lines

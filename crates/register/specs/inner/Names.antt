@@ -1,4 +1,4 @@
--- Laws of what Names.antt defines, which proofs cite.
+-- Laws of the name at a place, which proofs cite.
 -- Assumes nothing.
 use mathlib.Core.Path.{_≡_, refl}
 use mathlib.Core.List.{List}
@@ -6,7 +6,7 @@ use Prim.Native.Nat.{ℕ, zero, suc, _-_, _<_, _≤_}
 use native.Mathlib.Numerals.{sub-one}
 use native.Mathlib.Omega.{arith}
 use Rattle.fields.specs.Grammar.{restOf}
-use Rattle.register.specs.Names.{linesAfter}
+use Rattle.register.specs.Register.{linesAfter}
 
 pub lines-none : (k : ℕ) (s : List ℕ) → k ≤ 0 → linesAfter k s ≡ s
 unfolding linesAfter

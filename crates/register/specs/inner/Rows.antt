@@ -12,7 +12,7 @@ use Rattle.fields.specs.inner.Grammar.{name-length}
 use Rattle.apportionment.specs.Refusals.{accepted}
 use Rattle.lines.specs.inner.Places.{FrontOf, EndOf, end-of-end, rest-is-end, name-is-front, Stands, NamesAt}
 use Rattle.register.specs.Register.{readingOf}
-use Rattle.register.specs.Names.{rowsOf, linesAfter, nameInRow}
+use Rattle.register.specs.Register.{rowsOf, linesAfter, nameInRow}
 use Rattle.register.specs.inner.Names.{lines-next}
 use Rattle.register.specs.inner.Sound.{reading-named}
 use Rattle.register.specs.declared.Reading.{Reading}

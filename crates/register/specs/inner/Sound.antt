@@ -22,7 +22,7 @@ use Rattle.register.specs.Register.{noPopulations, refused, accepts, end
 use Rattle.register.specs.inner.Register.{states-passed}
 use Rattle.register.specs.inner.Names.{lines-next}
 use Rattle.register.specs.inner.Kept.{name-on-line}
-use Rattle.register.specs.Names.{linesAfter, nameRefusalIn, nameRefusalOf, nameOf}
+use Rattle.register.specs.Register.{linesAfter, nameRefusalIn, nameRefusalOf, nameOf}
 use Rattle.lines.specs.declared.head.Head.{Head}
 use Rattle.register.specs.declared.Reading.{Reading}
 

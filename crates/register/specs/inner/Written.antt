@@ -16,7 +16,7 @@ use Rattle.apportionment.specs.Lists.{sum, sameList}
 use Rattle.apportionment.specs.inner.Lists.{entry-at-most-sum, zeros-at}
 use Rattle.apportionment.specs.Text.{bytesOf, decimal}
 use Rattle.apportionment.specs.declared.Method.{Method}
-use Rattle.fields.specs.Parts.{placeOf, allBetween}
+use Rattle.fields.specs.Grammar.{placeOf, allBetween}
 use Rattle.fields.specs.Grammar.{comma, restOf, isName}
 use Rattle.fields.specs.inner.Grammar.{name-length}
 use Rattle.fields.specs.inner.Written.{Without, Printable, name-printable, number-printable}
@@ -27,7 +27,7 @@ use Rattle.lines.specs.inner.Written.{HeadFields, headText, head-fields, head-w
 use Rattle.lines.specs.declared.head.Head.{Head}
 use Rattle.register.specs.Register.{noPopulations, accepts, endOf, closingOf, statesFrom, statesOf, linesOf, readingOf}
 use Rattle.register.specs.Register.{populationsIn}
-use Rattle.register.specs.Names.{linesAfter, nameOf}
+use Rattle.register.specs.Register.{linesAfter, nameOf}
 use Rattle.register.specs.inner.Names.{lines-next}
 use Rattle.register.specs.inner.Register.{states-passed}
 use Rattle.register.specs.inner.Kept.{name-on-line}

@@ -3,7 +3,7 @@
 use native.Mathlib.Omega.{arith}
 use borrow.Author.Needs.{needs}
 use Rattle.showing.specs.Work.{endText}
-use Rattle.text.specs.inner.Writing.{wrote-nothing}
+use Rattle.writing.specs.inner.Writing.{wrote-nothing}
 use Rattle.showing.proofs.put_end.Statement.{statement}
 use Rattle.showing.proofs.put_end.Tie as tie
 

@@ -2,7 +2,7 @@
 -- Assumes nothing.
 use borrow.Author.Needs.{needs}
 use Rattle.showing.specs.Work.{startText}
-use Rattle.text.specs.inner.Writing.{wrote-on, wrote-then}
+use Rattle.writing.specs.inner.Writing.{wrote-on, wrote-then}
 use Rattle.showing.proofs.put_start.Statement.{statement}
 use Rattle.showing.proofs.put_start.Tie as tie
 

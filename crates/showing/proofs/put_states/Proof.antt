@@ -7,7 +7,7 @@ use lib.ListN.{length}
 use Rattle.apportionment.specs.Limits.{stateLimit}
 use Rattle.placing.specs.Placing.{peopleOf}
 use Rattle.showing.specs.Work.{statesText, seatsIn}
-use Rattle.text.specs.inner.Writing.{wrote-then}
+use Rattle.writing.specs.inner.Writing.{wrote-then}
 use Rattle.showing.proofs.put_states.Statement.{statement}
 use Rattle.showing.proofs.put_states.Tie as tie
 

@@ -8,7 +8,7 @@ use Rattle.apportionment.specs.Limits.{stateLimit}
 use Rattle.placing.specs.Placing.{peopleOf}
 use Rattle.showing.specs.Work.{weighedText, seatsIn}
 use Rattle.showing.specs.inner.Showable.{all-weighable}
-use Rattle.text.specs.inner.Writing.{wrote-nothing}
+use Rattle.writing.specs.inner.Writing.{wrote-nothing}
 use Rattle.showing.proofs.put_weighed.Statement.{statement}
 use Rattle.showing.proofs.put_weighed.Tie as tie
 

@@ -13,7 +13,7 @@ use Rattle.apportionment.specs.Limits.{stateLimit}
 use Rattle.apportionment.specs.Text.{bytesOf, decimal}
 use Rattle.apportionment.specs.inner.Tests.{cond-both}
 use Rattle.departure.specs.inner.Answer.{InLimits}
-use Rattle.register.specs.Names.{nameInRow}
+use Rattle.register.specs.Register.{nameInRow}
 use Rattle.register.specs.inner.Rows.{nameLimit}
 use Rattle.apportionment.specs.inner.Decimal.{decimal-length}
 use Rattle.text.specs.inner.Bounds.{decimal-of-sum, decimal-of-house, decimal-of-states, numbers-length}
@@ -21,8 +21,9 @@ use Rattle.text.specs.inner.Bounds.{total-line-length, lines-length}
 use Rattle.text.specs.inner.Departures.{departure-length}
 use Rattle.placing.specs.Placing.{peopleOf}
 use Rattle.placing.specs.declared.Placing.{Placing}
-use Rattle.showing.specs.Work.{headLine, stateLine, stateLines, movedText, weighedLine, weighedAt, weighedLines}
+use Rattle.showing.specs.Work.{headLine, stateLine, stateLines, movedText, weighedLine, weighedLines}
 use Rattle.showing.specs.Work.{verbText, stepLine, seatsIn, statesText, startText, endText, weighedText, movedAt, stepText, moveText}
+use Rattle.showing.specs.inner.Work.{weighedAt}
 use Rattle.showing.specs.inner.Showable.{totalLimit, Showable, ShowableStep, all-weighable, moved-from, moved-to}
 
 -- The room that each kind of line takes: its fields at their longest, its commas and its line end.

@@ -13,7 +13,7 @@ use lib.ListN.{length, getD}
 use lib.Seq.{getD-take}
 use Rattle.apportionment.specs.Limits.{stateLimit, houseLimit, sumLimit}
 use Rattle.departure.specs.inner.Answer.{InLimits, AllInLimits}
-use Rattle.register.specs.Names.{nameInRow}
+use Rattle.register.specs.Register.{nameInRow}
 use Rattle.register.specs.inner.Rows.{nameLimit}
 use Rattle.placing.specs.Placing.{peopleOf}
 use Rattle.placing.specs.declared.Placing.{Placing}

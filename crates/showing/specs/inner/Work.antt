@@ -11,8 +11,8 @@ use lib.Dec.{eqb, ltb}
 use lib.ListN.{length, getD}
 use lib.Seq.{ext-getD}
 use Rattle.apportionment.specs.inner.Tests.{either-way}
-use Rattle.register.specs.Names.{nameInRow}
-use Rattle.showing.specs.Work.{stateLine, stateLines, weighedAt, weighedLines, differenceFrom, firstDifference}
+use Rattle.register.specs.Register.{nameInRow}
+use Rattle.showing.specs.Work.{stateLine, stateLines, seatsIfMoved, weighedLine, weighedLines, differenceFrom, firstDifference}
 
 -- ---- the lines of the start and the end
 
@@ -24,10 +24,15 @@ state-lines-more word rows ps seats P H k = rw add-one
 
 -- ---- what is weighed before a step
 
+-- State k weighed.
+unfoldable pub weighedAt : (step : ℕ) (adds : Bool) (rows ps seats : List ℕ) (P H k : ℕ) → List ℕ
+weighedAt step adds rows ps seats P H k =
+    weighedLine step (nameInRow rows k) (getD ps k 0) (getD seats k 0) (seatsIfMoved adds (getD seats k 0)) P H
+
 pub weighed-lines-more : (step : ℕ) (adds : Bool) (rows ps seats : List ℕ) (P H k : ℕ)
     → weighedLines step adds rows ps seats P H (k + 1)
     ≡ weighedLines step adds rows ps seats P H k ++ weighedAt step adds rows ps seats P H k
-unfolding weighedLines
+unfolding weighedLines weighedAt
 weighed-lines-more step adds rows ps seats P H k = rw add-one
 
 -- ---- a step

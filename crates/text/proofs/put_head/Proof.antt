@@ -1,7 +1,7 @@
 -- `text::put_head` meets its contract: its pieces, one after the other.
 -- Assumes nothing.
 use Rattle.text.specs.Shared.{headLine}
-use Rattle.text.specs.inner.Writing.{wrote-then}
+use Rattle.writing.specs.inner.Writing.{wrote-then}
 use borrow.Author.Needs.{needs}
 use Rattle.text.proofs.put_head.Statement.{statement}
 use Rattle.text.proofs.put_head.Tie as tie

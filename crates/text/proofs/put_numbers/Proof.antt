@@ -1,6 +1,6 @@
 -- `text::put_numbers` meets its contract: comma, number, comma and number, one after the other.
 -- Assumes nothing.
-use Rattle.text.specs.inner.Writing.{wrote-then}
+use Rattle.writing.specs.inner.Writing.{wrote-then}
 use Rattle.text.specs.Shared.{numbersText}
 use borrow.Author.Needs.{needs}
 use Rattle.text.proofs.put_numbers.Statement.{statement}

@@ -1,6 +1,6 @@
 -- `text::put_refusal` meets its contract: the word, the numbers and the line end, one after the other.
 -- Assumes nothing.
-use Rattle.text.specs.inner.Writing.{wrote-then}
+use Rattle.writing.specs.inner.Writing.{wrote-then}
 use Rattle.text.specs.Shared.{refusalLine}
 use borrow.Author.Needs.{needs}
 use Rattle.text.proofs.put_refusal.Statement.{statement}

@@ -5,7 +5,7 @@ use borrow.Author.Needs.{needs}
 use lib.IntN.{natAbs}
 use mir.Facts.{toZ-ofZ}
 use Rattle.text.specs.inner.Shown.{shown-below, shown-above}
-use Rattle.text.specs.inner.Writing.{wrote-then}
+use Rattle.writing.specs.inner.Writing.{wrote-then}
 use Rattle.text.proofs.put_shown.Statement.{statement}
 use Rattle.text.proofs.put_shown.Tie as tie
 

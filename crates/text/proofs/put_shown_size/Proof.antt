@@ -2,7 +2,7 @@
 -- Assumes nothing.
 use borrow.Author.Needs.{needs}
 use Rattle.apportionment.specs.Quantities.{shownSizeText}
-use Rattle.text.specs.inner.Writing.{wrote-then}
+use Rattle.writing.specs.inner.Writing.{wrote-then}
 use Rattle.text.proofs.put_shown_size.Statement.{statement}
 use Rattle.text.proofs.put_shown_size.Tie as tie
 

@@ -2,7 +2,7 @@
 -- Assumes nothing.
 use mathlib.Core.Path.{sym}
 use lib.Seq.{length-take-le}
-use Rattle.text.specs.inner.Writing.{wrote-front}
+use Rattle.writing.specs.inner.Writing.{wrote-front}
 use Rattle.showing.specs.inner.Room.{move-fits}
 use borrow.Author.Needs.{needs}
 use Rattle.work.proofs.print_move.Statement.{statement}

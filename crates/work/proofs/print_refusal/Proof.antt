@@ -3,7 +3,7 @@
 use mathlib.Core.Path.{sym}
 use native.Mathlib.Omega.{arith}
 use lib.Seq.{length-take-le}
-use Rattle.text.specs.inner.Writing.{wrote-front}
+use Rattle.writing.specs.inner.Writing.{wrote-front}
 use Rattle.text.specs.inner.Bounds.{refusal-line-length}
 use borrow.Author.Needs.{needs}
 use Rattle.work.proofs.print_refusal.Statement.{statement}

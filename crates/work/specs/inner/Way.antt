@@ -25,13 +25,13 @@ use Rattle.apportionment.specs.Allotment.{openRefusal}
 use Rattle.problem.specs.inner.Passed.{Openable, open-passed}
 use Rattle.departure.specs.inner.Answer.{InLimits}
 use Rattle.register.specs.Register.{readingOf}
-use Rattle.register.specs.Names.{rowsOf, nameInRow}
+use Rattle.register.specs.Register.{rowsOf, nameInRow}
 use Rattle.register.specs.inner.Sound.{ReadingSound, reading-sound}
 use Rattle.register.specs.inner.Rows.{nameLimit, name-limited}
 use Rattle.register.specs.declared.Reading.{Reading}
+use Rattle.agreement.specs.inner.Agreement.{lex-within-house}
 use Rattle.placing.specs.Placing.{started, placingAt, openedOf, movedOf, peopleOf}
 use Rattle.placing.specs.inner.Lists.{take-padded}
-use Rattle.placing.specs.inner.Genuine.{lex-within-house}
 use Rattle.placing.specs.inner.Walk.{own-people, start-is-first, moved-after}
 use Rattle.placing.specs.declared.Placing.{Placing}
 use Rattle.placing.specs.declared.Placed.{Placed}

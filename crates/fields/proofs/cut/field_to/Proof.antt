@@ -1,7 +1,7 @@
 -- The first field stands before the first comma.
 -- Assumes nothing.
 use mathlib.Core.Path.{_∙_}
-use Rattle.fields.specs.Parts.{before}
+use Rattle.fields.specs.Grammar.{before}
 use Rattle.fields.specs.inner.Parts.{place-within}
 use Rattle.fields.specs.Grammar.{fieldOf}
 use Rattle.fields.proofs.cut.field_to.Statement.{statement}

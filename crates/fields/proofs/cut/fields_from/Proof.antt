@@ -1,7 +1,7 @@
 -- What follows the first field stands past the first comma.
 -- Assumes nothing.
 use mathlib.Core.Path.{_∙_}
-use Rattle.fields.specs.Parts.{after}
+use Rattle.fields.specs.Grammar.{after}
 use Rattle.fields.specs.inner.Parts.{place-within}
 use Rattle.fields.specs.Grammar.{fieldsAfter}
 use Rattle.fields.proofs.cut.fields_from.Statement.{statement}

@@ -1,6 +1,6 @@
 -- A line has an end if it ends before the last byte is passed.
 -- Assumes nothing.
-use Rattle.fields.specs.Parts.{has}
+use Rattle.fields.specs.Grammar.{has}
 use Rattle.fields.specs.Grammar.{ended}
 use Rattle.fields.proofs.cut.is_ended.Statement.{statement}
 use Rattle.fields.proofs.cut.is_ended.Tie as tie

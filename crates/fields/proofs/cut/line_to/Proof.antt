@@ -1,7 +1,7 @@
 -- `line_to` cuts at the first LF, and then the CR.
 -- Assumes nothing.
 use mathlib.Core.Path.{_∙_}
-use Rattle.fields.specs.Parts.{before}
+use Rattle.fields.specs.Grammar.{before}
 use Rattle.fields.specs.inner.Parts.{place-within}
 use Rattle.fields.specs.Grammar.{lineOf}
 use borrow.Author.Needs.{needs}

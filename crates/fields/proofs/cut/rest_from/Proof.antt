@@ -1,7 +1,7 @@
 -- What is left after the first line stands past the first LF.
 -- Assumes nothing.
 use mathlib.Core.Path.{_∙_}
-use Rattle.fields.specs.Parts.{after}
+use Rattle.fields.specs.Grammar.{after}
 use Rattle.fields.specs.inner.Parts.{place-within}
 use Rattle.fields.specs.Grammar.{restOf}
 use Rattle.fields.proofs.cut.rest_from.Statement.{statement}

@@ -1,7 +1,7 @@
 -- `is_number` tests the length from both sides, and then the digits.
 -- Assumes nothing.
 use borrow.Author.Tests.{le-leb, lt-leb, eq-eqb, ne-eqb}
-use Rattle.apportionment.specs.Checks.{within}
+use Rattle.apportionment.specs.Refusals.{within}
 use Rattle.fields.specs.Grammar.{isNumber}
 use borrow.Author.Needs.{needs}
 use Rattle.fields.proofs.numbers.is_number.Statement.{statement}

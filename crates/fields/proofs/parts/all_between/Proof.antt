@@ -3,7 +3,7 @@
 use mathlib.Core.Path.{_≡_, refl, sym, _∙_}
 use Prim.Native.Nat.{_-_, _≤_}
 use lib.ListN.{length, drop}
-use Rattle.fields.specs.Parts.{allBetween}
+use Rattle.fields.specs.Grammar.{allBetween}
 use Rattle.fields.specs.inner.Parts.{between-below, between-above, between-passed, between-end}
 use borrow.Author.Needs.{needs}
 use native.Mathlib.Omega.{arith}

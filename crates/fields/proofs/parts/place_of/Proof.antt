@@ -3,7 +3,7 @@
 use mathlib.Core.Path.{_≡_}
 use Prim.Native.Nat.{_+_, _-_, _≤_}
 use lib.ListN.{length, drop}
-use Rattle.fields.specs.Parts.{placeOf}
+use Rattle.fields.specs.Grammar.{placeOf}
 use Rattle.fields.specs.inner.Parts.{place-found, place-passed, place-end}
 use borrow.Author.Needs.{needs}
 use native.Mathlib.Omega.{arith}

@@ -1,7 +1,7 @@
 -- `is_method_field` tests the length from both sides, and then the bytes.
 -- Assumes nothing.
 use borrow.Author.Tests.{le-leb, lt-leb, eq-eqb, ne-eqb}
-use Rattle.apportionment.specs.Checks.{within}
+use Rattle.apportionment.specs.Refusals.{within}
 use Rattle.fields.specs.Grammar.{isMethodField}
 use borrow.Author.Needs.{needs}
 use Rattle.fields.proofs.words.is_method_field.Statement.{statement}

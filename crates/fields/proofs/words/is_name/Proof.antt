@@ -1,7 +1,7 @@
 -- `is_name` tests the length from both sides and the two ends; the bytes were tested before.
 -- Assumes nothing.
 use borrow.Author.Tests.{le-leb, lt-leb, eq-eqb, ne-eqb}
-use Rattle.apportionment.specs.Checks.{within}
+use Rattle.apportionment.specs.Refusals.{within}
 use Rattle.fields.specs.Grammar.{isName, lastByte}
 use borrow.Author.Needs.{needs}
 use Rattle.fields.proofs.words.is_name.Statement.{statement}

@@ -6,9 +6,9 @@ use Prim.Native.Nat.{ℕ}
 use borrow.Author.Tests.{eq-eqb, ne-eqb}
 use Rattle.fields.specs.inner.Tests.{failed, passed}
 use Rattle.fields.specs.Grammar.{fieldOf, fieldsAfter, valueOf}
-use Rattle.lines.specs.Lines.{nameAt, numberField, numberAt, isPair, isClosingLine, closingRefusal}
+use Rattle.lines.specs.Lines.{nameAt, numberField, numberAt, isClosingLine, closingRefusal}
 use Rattle.lines.specs.inner.Lines.{closing-number}
-use Rattle.apportionment.specs.Checks.{firstRefusal}
+use Rattle.apportionment.specs.Refusals.{firstRefusal}
 use borrow.Author.Needs.{needs}
 use Rattle.lines.proofs.pairs.closing_refusal.Statement.{statement}
 use Rattle.lines.proofs.pairs.closing_refusal.Tie as tie
@@ -28,7 +28,7 @@ unfolding numberField
 digits-are c = c .fields-from .ensures ∙ ap fieldsAfter (c .before .before .before .line-to .ensures)
 
 formed : (c : tie.After-is-pair) → c .is-pair .result ≡ isClosingLine (bytes (c .before .before .before .before))
-unfolding isClosingLine isPair
+unfolding isClosingLine
 formed c =
     let parts = c .before .before .before .before in
     cc (

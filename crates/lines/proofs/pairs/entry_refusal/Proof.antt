@@ -5,7 +5,7 @@ use native.Mathlib.Omega.{arith}
 use borrow.Author.Needs.{needs}
 use borrow.Author.Tests.{lt-ltb, le-ltb}
 use Rattle.apportionment.specs.Limits.{sumLimit}
-use Rattle.apportionment.specs.Checks.{firstRefusal}
+use Rattle.apportionment.specs.Refusals.{firstRefusal}
 use Rattle.apportionment.specs.inner.Checks.{inside-limits}
 use Rattle.lines.specs.inner.Lines.{entryRefusal}
 use Rattle.lines.proofs.pairs.entry_refusal.Statement.{statement}

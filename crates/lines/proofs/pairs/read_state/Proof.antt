@@ -5,9 +5,9 @@ use mathlib.Core.Bool.{true}
 use mathlib.Core.List.{List}
 use Prim.Native.Nat.{ℕ}
 use Rattle.fields.specs.inner.Tests.{failed, passed}
-use Rattle.fields.specs.Parts.{allBetween}
+use Rattle.fields.specs.Grammar.{allBetween}
 use Rattle.fields.specs.Grammar.{fieldOf, fieldsAfter, valueOf}
-use Rattle.lines.specs.Lines.{nameAt, numberField, numberAt, usedIn, isPair, isStateLine}
+use Rattle.lines.specs.Lines.{nameAt, numberField, numberAt, usedIn, isStateLine}
 use Rattle.lines.specs.inner.Lines.{entryRefusal, state-parts}
 use Rattle.lines.specs.inner.Fingerprints.{fingerprintOf, field-end, field-plain, field-print}
 use Rattle.lines.specs.inner.Cut.{lineRefused, lineRead, line-ill-formed, line-refused, line-accepted}
@@ -38,7 +38,7 @@ print-is c =
     ∙ ap fingerprintOf (sym (c .before .field-to .ensures))
 
 formed : (c : tie.After-is-pair) → c .is-pair .result ≡ isStateLine (bytes (c .before .before .before))
-unfolding isStateLine isPair
+unfolding isStateLine
 formed c =
     let parts = c .before .before .before in
     cc (

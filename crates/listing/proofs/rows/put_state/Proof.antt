@@ -1,6 +1,6 @@
 -- `listing::rows::put_state` meets its contract: its pieces, one after the other, with the departure and the mark that the answer has.
 -- Assumes nothing.
-use Rattle.text.specs.inner.Writing.{wrote-then}
+use Rattle.writing.specs.inner.Writing.{wrote-then}
 use Rattle.text.specs.inner.Departures.{answered-departure, answered-mark}
 use Rattle.listing.specs.Listing.{stateLine}
 use borrow.Author.Needs.{needs}

@@ -5,10 +5,9 @@ use mathlib.Core.Path.{_≡_}
 use Prim.Native.Nat.{_≤_, _-_}
 use native.Mathlib.Omega.{arith}
 use lib.ListN.{length}
-use Rattle.register.specs.Names.{nameInRow}
+use Rattle.register.specs.Register.{nameInRow}
 use Rattle.register.specs.inner.Rows.{placed-at}
-use Rattle.text.specs.Writing.{Wrote}
-use Rattle.text.specs.inner.Writing.{wrote-then, wrote-length}
+use Rattle.writing.specs.inner.Writing.{Wrote, wrote-then, wrote-length}
 use Rattle.listing.specs.Listing.{stateLines}
 use Rattle.listing.specs.inner.Rows.{state-lines-more}
 use borrow.Author.Needs.{needs}

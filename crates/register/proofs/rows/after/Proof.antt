@@ -1,7 +1,7 @@
 -- `after` passes one row at a time: what is left after all of them is what is left after those to come.
 -- Assumes nothing.
 use mathlib.Core.Path.{_≡_, refl, sym, _∙_}
-use Rattle.register.specs.Names.{linesAfter}
+use Rattle.register.specs.Register.{linesAfter}
 use Rattle.register.specs.inner.Names.{lines-none, lines-step}
 use borrow.Author.Needs.{needs}
 use native.Mathlib.Omega.{arith}

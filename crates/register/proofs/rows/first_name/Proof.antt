@@ -1,6 +1,6 @@
 -- The name on the first row is that on the first line.
 -- Assumes nothing.
-use Rattle.register.specs.Names.{linesAfter}
+use Rattle.register.specs.Register.{linesAfter}
 use borrow.Author.Needs.{needs}
 use Rattle.register.proofs.rows.first_name.Statement.{statement}
 use Rattle.register.proofs.rows.first_name.Tie as tie

@@ -1,6 +1,6 @@
 -- What is left after one row is what is left after one line.
 -- Assumes nothing.
-use Rattle.register.specs.Names.{linesAfter}
+use Rattle.register.specs.Register.{linesAfter}
 use borrow.Author.Needs.{needs}
 use Rattle.register.proofs.rows.rest.Statement.{statement}
 use Rattle.register.proofs.rows.rest.Tie as tie

@@ -2,7 +2,7 @@
 -- Assumes nothing.
 use borrow.Author.Needs.{needs}
 use Rattle.showing.specs.Work.{movedText}
-use Rattle.text.specs.inner.Writing.{wrote-then}
+use Rattle.writing.specs.inner.Writing.{wrote-then}
 use Rattle.showing.proofs.rows.put_moved.Statement.{statement}
 use Rattle.showing.proofs.rows.put_moved.Tie as tie
 

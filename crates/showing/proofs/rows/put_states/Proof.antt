@@ -6,12 +6,11 @@ use Prim.Native.Nat.{_≤_, _-_}
 use native.Mathlib.Omega.{arith}
 use borrow.Author.Needs.{needs}
 use lib.ListN.{length}
-use Rattle.register.specs.Names.{linesAfter}
+use Rattle.register.specs.Register.{linesAfter}
 use Rattle.register.specs.inner.Rows.{rows-next, name-of-first}
 use Rattle.showing.specs.Work.{stateLines}
 use Rattle.showing.specs.inner.Work.{state-lines-more}
-use Rattle.text.specs.Writing.{Wrote}
-use Rattle.text.specs.inner.Writing.{wrote-then, wrote-length}
+use Rattle.writing.specs.inner.Writing.{Wrote, wrote-then, wrote-length}
 use Rattle.showing.proofs.rows.put_states.Statement.{statement}
 use Rattle.showing.proofs.rows.put_states.Tie as tie
 

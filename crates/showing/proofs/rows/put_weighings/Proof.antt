@@ -7,12 +7,12 @@ use native.Mathlib.Nat.{le-trans}
 use native.Mathlib.Omega.{arith}
 use borrow.Author.Needs.{needs}
 use lib.ListN.{length}
-use Rattle.register.specs.Names.{linesAfter}
+use Rattle.register.specs.Register.{linesAfter}
 use Rattle.register.specs.inner.Rows.{rows-next, name-of-first}
-use Rattle.showing.specs.Work.{weighedAt, weighedLines}
-use Rattle.showing.specs.inner.Work.{weighed-lines-more}
-use Rattle.text.specs.Writing.{Wrote}
-use Rattle.text.specs.inner.Writing.{wrote-then, wrote-length}
+use Rattle.showing.specs.Work.{weighedLines}
+use Rattle.showing.specs.inner.Work.{weighedAt, weighed-lines-more}
+use Rattle.writing.specs.inner.Writing.{Wrote}
+use Rattle.writing.specs.inner.Writing.{wrote-then, wrote-length}
 use Rattle.showing.proofs.rows.put_weighings.Statement.{statement}
 use Rattle.showing.proofs.rows.put_weighings.Tie as tie
 
