@@ -4,27 +4,17 @@ use crate::tournament::build;
 use crate::tournament::replay;
 use apportionment::DivisorMethod;
 use apportionment::STATE_LIMIT;
+use claims::moves::moved;
 use claims::tournament::plant;
 use signposts::order::first_to_move;
 ghost use mathlib.Core.Path.{_≡_};
-ghost use Prim.Native.Nat.{_+_, _*_, _^_, _<_};
+ghost use Prim.Native.Nat.{_*_};
 ghost use lib.ListN.{length};
 ghost use Rattle.signposts.specs.inner.Order.{ClaimsFit};
-ghost use Rattle.divisor.specs.inner.Moves.{Moves, Played, Turn, Turned, movedBy, movedOnce, movedSeats};
+ghost use Rattle.divisor.specs.inner.Moves.{Moves, Played, Turn, Turned, movedOnce, movedSeats};
 
 // Scans that look at so few states in all are faster than making a tournament, and so is a single scan.
 const FEW: u64 = 96;
-
-// A state's seats after a move: one more, or one less and none of none.
-fn moved(up: bool, x: u64) -> u64
-    requires { ⌜ x + 1 < 2 ^ 64 ⌝ }
-    ensures { λ r. ⌜ r ≡ movedBy up x ⌝ }
-{
-    if up {
-        return x + 1;
-    }
-    if x == 0 { 0 } else { x - 1 }
-}
 
 // The state at the root moves, and the tournament is replayed from its leaf.
 fn move_one(

@@ -5,14 +5,14 @@ use crate::tournament::build;
 use crate::tournament::replay;
 use crate::tournament::wide;
 use apportionment::STATE_LIMIT;
+use claims::moves::moved;
 ghost use mathlib.Core.Path.{_≡_};
-ghost use Prim.Native.Nat.{_*_, _<_, _≤_};
+ghost use Prim.Native.Nat.{_*_, _<_};
 ghost use lib.ListN.{length};
-ghost use Rattle.apportionment.specs.Limits.{houseLimit};
 ghost use Rattle.claims.specs.inner.Order.{placed, withdrawn};
 ghost use Rattle.claims.specs.inner.SizeClaims.{sizeTest, oneEach};
 ghost use Rattle.leximin.specs.inner.Scan.{Bounded, Seated};
-ghost use Rattle.leximin.specs.inner.Moves.{movedOnce, movedTimes, movedBy, Movable};
+ghost use Rattle.leximin.specs.inner.Moves.{movedOnce, movedTimes, Movable};
 
 // The first claim not met is met.
 fn place(populations: &[u64], seats: &mut [u64], total: u64, house: u64)
@@ -65,17 +65,6 @@ fn move_by_scans(
     }
 }
 
-// A state's seats after its move.
-fn moved_by(up: bool, seats: u64) -> u64
-    requires { ⌜ (0 < seats) × (seats ≤ houseLimit) ⌝ }
-    ensures { λ r. ⌜ r ≡ movedBy up seats ⌝ }
-{
-    if up {
-        return seats + 1;
-    }
-    seats - 1
-}
-
 // Moves so many seats, one after the other: each time the state at the root of a tournament, which is then replayed.
 fn move_by_tournament(
     up: bool,
@@ -94,7 +83,7 @@ fn move_by_tournament(
     while done < times {
         let root = tree[1];
         let state = wide(root);
-        seats[state] = moved_by(up, seats[state]);
+        seats[state] = moved(up, seats[state]);
         replay(
             up,
             populations,

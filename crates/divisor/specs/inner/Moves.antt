@@ -15,7 +15,7 @@ use Rattle.apportionment.specs.inner.Problem.{States}
 use Rattle.apportionment.specs.Divisor.{oneMore}
 use Rattle.apportionment.specs.declared.DivisorMethod.{DivisorMethod}
 use Rattle.claims.specs.inner.Order.{firstUnmet, placed, placedTimes}
-use Rattle.claims.specs.inner.Order.{lastMet, oneLess, withdrawn, withdrawnTimes}
+use Rattle.claims.specs.inner.Order.{lastMet, oneLess, withdrawn, withdrawnTimes, movedBy}
 use Rattle.claims.specs.inner.Standing.{length-placedTimes, sum-placedTimes, length-withdrawnTimes}
 use Rattle.claims.specs.inner.Tournament.{Passes, Winners, winner-lt, root-is-first}
 use Rattle.claims.specs.inner.TournamentReplay.{AgreeBut, decidedAt, Replaying, replaying-start}
@@ -26,11 +26,6 @@ use Rattle.signposts.specs.inner.Claims.{seatLimit}
 use Rattle.signposts.specs.inner.Order.{ClaimsFit, noFewest, movesBefore, firstToMove}
 
 -- ---- what a move makes of the seats
-
--- A state's seats after its move.
-unfoldable pub movedBy : Bool → ℕ → ℕ
-movedBy true a = a + 1
-movedBy false a = a - 1
 
 -- The seats after one move, of the state that comes first, and after so many.
 unfoldable pub movedOnce : DivisorMethod → Bool → (ps ss : List ℕ) → List ℕ

@@ -15,7 +15,7 @@ use Rattle.apportionment.specs.Lists.{sum, firstPlace}
 use Rattle.apportionment.specs.inner.Problem.{Problem}
 use Rattle.apportionment.specs.inner.Lists.{entry-at-most-sum, sum-listOf-one}
 use Rattle.apportionment.specs.Leximin.{startSeats}
-use Rattle.claims.specs.inner.Order.{ClaimTest, firstUnmet, lastMet, placed, placedTimes, oneLess, withdrawn, withdrawnTimes}
+use Rattle.claims.specs.inner.Order.{ClaimTest, firstUnmet, lastMet, placed, placedTimes, oneLess, withdrawn, withdrawnTimes, movedBy}
 use Rattle.claims.specs.inner.Standing.{firstUnmet-lt, lastMet-lt, length-placedTimes, sum-placedTimes, placedTimes-standing}
 use Rattle.claims.specs.inner.Standing.{length-withdrawnTimes, withdrawnTimes-standing}
 use Rattle.claims.specs.inner.StandingMoves.{at-oneMore}
@@ -38,10 +38,6 @@ movedOnce up ps H xs = cond up (placed (sizeTest ps H) (length ps) xs) (withdraw
 unfoldable pub movedTimes : (up : Bool) (ps : List ℕ) (H : ℕ) (xs : List ℕ) (k : ℕ) → List ℕ
 movedTimes up ps H xs k =
     cond up (placedTimes (sizeTest ps H) (length ps) xs k) (withdrawnTimes oneEach (sizeTest ps H) (length ps) xs k)
-
--- A state's seats after its move.
-unfoldable pub movedBy : (up : Bool) → ℕ → ℕ
-movedBy up x = cond up (x + 1) (x - 1)
 
 -- So many can be placed if the largest house has room for them, and withdrawn if one is left for each state.
 abbrev pub Room : (up : Bool) (n : ℕ) (xs : List ℕ) (times : ℕ) → Type 0

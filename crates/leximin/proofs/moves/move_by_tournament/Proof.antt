@@ -37,28 +37,27 @@ slice-read-root c =
 wide-requires : tie.Need-wide-requires Inv-loop μ-loop
 wide-requires c κs = search needs
 
-mul-moved-by : tie.Need-mul-moved-by Inv-loop μ-loop
-mul-moved-by c =
+mul-moved : tie.Need-mul-moved Inv-loop μ-loop
+mul-moved c =
     let at-loop = c .before .before .before in
     let at-build-arg = at-loop .before .before .before .before .before in
     let start = at-build-arg .before .before .before .before in
     omega (arith, root-inside (start .pre .0) (at-loop .loop .inv .1) (c .wide .ensures), start .pre .0 .problem .states .statesWithin)
 
-slice-read-moved-by : tie.Need-slice-read-moved-by Inv-loop μ-loop
-slice-read-moved-by c =
+slice-read-moved : tie.Need-slice-read-moved Inv-loop μ-loop
+slice-read-moved c =
     let at-loop = c .before .before .before .before in
     let at-build-arg = at-loop .before .before .before .before .before in
     let start = at-build-arg .before .before .before .before in
     root-has-seats (start .pre .0) (at-loop .loop .inv .1) (c .before .wide .ensures) (at-loop .loop .inv .0)
 
-moved-by-requires : tie.Need-moved-by-requires Inv-loop μ-loop
-moved-by-requires c κs =
+moved-requires : tie.Need-moved-requires Inv-loop μ-loop
+moved-requires c κs =
     let at-loop = c .before .before .before .before in
     let at-build-arg = at-loop .before .before .before .before .before in
     let start = at-build-arg .before .before .before .before in
     let now = moving-sided (start .pre .0) (at-loop .loop .inv .1) (at-loop .loop .inv .0) in
-    let inside = root-inside (start .pre .0) (at-loop .loop .inv .1) (c .before .wide .ensures) in
-    (now .seated .least _ inside, now .seated .bounded .seatsWithin _)
+    omega (arith, now .seated .bounded .seatsWithin (c .before .wide .result))
 
 mul-seats : tie.Need-mul-seats Inv-loop μ-loop
 mul-seats c =
@@ -79,13 +78,13 @@ slice-write-seats c =
 
 replay-requires : tie.Need-replay-requires Inv-loop μ-loop
 replay-requires c κs =
-    let at-moved-by = c .before .before in
-    let at-wide = at-moved-by .before .before in
+    let at-moved = c .before .before in
+    let at-wide = at-moved .before .before in
     let at-loop-test = at-wide .before .before in
     let at-loop = at-loop-test .before in
     let at-build-arg = at-loop .before .before .before .before .before in
     let start = at-build-arg .before .before .before .before in
-    root-due (start .pre .0) (at-loop .loop .inv .1) (at-wide .wide .ensures) (at-moved-by .moved-by .ensures)
+    root-due (start .pre .0) (at-loop .loop .inv .1) (at-wide .wide .ensures) (at-moved .moved .ensures)
     (at-loop-test .loop-test .taken)
 
 add-done : tie.Need-add-done Inv-loop μ-loop
@@ -97,8 +96,8 @@ loop-less c = search needs
 loop-again : tie.Need-loop-again Inv-loop μ-loop
 loop-again c =
     let at-replay = c .before .before in
-    let at-moved-by = at-replay .before .before .before in
-    let at-wide = at-moved-by .before .before in
+    let at-moved = at-replay .before .before .before in
+    let at-wide = at-moved .before .before in
     let at-loop-test = at-wide .before .before in
     let at-loop = at-loop-test .before in
     let at-build-arg = at-loop .before .before .before .before .before in
@@ -106,7 +105,7 @@ loop-again c =
       omega (arith, at-loop-test .loop-test .taken),
       record {
         seats =
-            root-moved (start .pre .0) (at-loop .loop .inv .1) (at-wide .wide .ensures) (at-moved-by .moved-by .ensures)
+            root-moved (start .pre .0) (at-loop .loop .inv .1) (at-wide .wide .ensures) (at-moved .moved .ensures)
             (at-loop-test .loop-test .taken);
         winners = at-replay .replay .ensures;
       },
@@ -138,9 +137,9 @@ move-by-tournament-spec =
     loop-holds
     slice-read-root
     wide-requires
-    mul-moved-by
-    slice-read-moved-by
-    moved-by-requires
+    mul-moved
+    slice-read-moved
+    moved-requires
     mul-seats
     slice-write-seats
     replay-requires

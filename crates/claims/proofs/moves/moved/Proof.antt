@@ -1,10 +1,10 @@
--- `divisor::moves::moved` is right by its two tests: which way the seats move, and whether there is one to give up.
+-- `claims::moves::moved` is right by its two tests: which way the seats move, and whether there is one to give up.
 -- Assumes nothing.
 use native.Mathlib.Omega.{arith}
 use borrow.Author.Needs.{needs}
-use Rattle.divisor.specs.inner.Moves.{movedBy}
-use Rattle.divisor.proofs.moves.moved.Statement.{statement}
-use Rattle.divisor.proofs.moves.moved.Tie as tie
+use Rattle.claims.specs.inner.Order.{movedBy}
+use Rattle.claims.proofs.moves.moved.Statement.{statement}
+use Rattle.claims.proofs.moves.moved.Tie as tie
 
 add-result : tie.Need-add-result
 add-result c = search needs
