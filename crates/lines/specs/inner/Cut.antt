@@ -30,6 +30,13 @@ lineRead s = record {
   end = placeOf lineFeed s;
 }
 
+-- So the code makes it, by the parts that it has.
+pub line-by-parts : {p print end : ℕ} (s name : List ℕ) → p ≡ numberAt s → print ≡ fingerprintOf name → name ≡ nameAt s
+    → end ≡ placeOf lineFeed s
+    → record { refusal = accepted; population = p; print = print; width = length name; end = end } ≡ lineRead s
+unfolding lineRead
+line-by-parts s name people printed named ended = cc
+
 unfoldable pub stateLineOf : (first : List ℕ) (k sum : ℕ) → List ℕ → StateLine
 stateLineOf first k sum s =
     let refusal = stateRefusal first k sum s in

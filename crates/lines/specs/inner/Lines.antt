@@ -37,6 +37,14 @@ five-at-once true true false w x = refl
 five-at-once true false v w x = refl
 five-at-once false u v w x = refl
 
+-- Parts that are the same pass the same tests. `cc` looks at all that is known, which is little here, and much where a line was cut.
+pub same-head : {t t′ : Bool} {w w′ m m′ h h′ n n′ : List ℕ} → t ≡ t′ → w ≡ w′ → m ≡ m′ → h ≡ h′ → n ≡ n′
+    → headFormed t w m h n ≡ headFormed t′ w′ m′ h′ n′
+same-head ending word method house count = cc
+
+pub same-pair : {t t′ u u′ : Bool} {n n′ : List ℕ} → t ≡ t′ → u ≡ u′ → n ≡ n′ → pairFormed t u n ≡ pairFormed t′ u′ n′
+same-pair ending first digits = cc
+
 -- ---- the head
 
 pub head-numbers : (s : List ℕ) → isHead s ≡ true → (isNumber (houseField s) ≡ true) × (isNumber (countField s) ≡ true)

@@ -1,6 +1,6 @@
 -- `read_places` tests the length, then the head, and leaves the rest to `read_states`, which keeps the places.
 -- Assumes nothing.
-use mathlib.Core.Path.{_≡_, sym, ap, _∙_}
+use mathlib.Core.Path.{_≡_, sym, ap, ap₂, _∙_}
 use mathlib.Core.List.{List}
 use Prim.Native.Nat.{ℕ, _≤_}
 use native.Mathlib.Omega.{arith}
@@ -94,7 +94,7 @@ returns-3 c =
     let of = states .before .before .before in
     let head = read-head (of .before) .read-head .ensures in
     let is : states .read-states .result ≡ readingOf (bytes (of .before)) =
-    cc (states .read-states .ensures .0, head, of .of .ensures, reading-is (of .before)) in (
+    states .read-states .ensures .0 ∙ ap₂ statesOf head (of .of .ensures) ∙ sym (reading-is (of .before)) in (
       is,
       λ none.
           let counted = ap (λ r. r .states) is ∙ reading-counted (bytes (of .before)) (sym (ap (λ r. r .refusal) is) ∙ none) in

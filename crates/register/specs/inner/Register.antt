@@ -25,6 +25,12 @@ unfolding statesFrom
 states-refused head first zero k sum populations s some bad = absurd (omega arith)
 states-refused head first (suc left) k sum populations s some bad = rw (ne-eqb (stateRefusal first k sum s) accepted bad)
 
+-- Equal numbers taken and equal bytes left are read on alike.
+pub same-left : (head : Head) (first : List ℕ) (left k sum : ℕ) (populations : List ℕ) {p q : ℕ} {s t : List ℕ} → p ≡ q → s ≡ t
+    → statesFrom head first left (k + 1) (sum + p) (set populations k p) s
+    ≡ statesFrom head first left (k + 1) (sum + q) (set populations k q) t
+same-left head first left k sum populations people rest = cc
+
 pub states-passed : (head : Head) (first : List ℕ) (left next k sum : ℕ) (populations s : List ℕ) → left ≡ suc next
     → stateRefusal first k sum s ≡ accepted
     → statesFrom head first left k sum populations s

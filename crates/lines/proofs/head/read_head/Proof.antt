@@ -6,7 +6,7 @@ use Prim.Native.Nat.{ℕ}
 use Rattle.fields.specs.Grammar.{lineOf, fieldOf, fieldsAfter}
 use Rattle.fields.specs.inner.Tests.{failed, passed}
 use Rattle.lines.specs.Lines.{methodField, houseField, countField, isHead}
-use Rattle.lines.specs.inner.Lines.{head-numbers, head-by-parts}
+use Rattle.lines.specs.inner.Lines.{head-numbers, head-by-parts, same-head}
 use borrow.Author.Needs.{needs}
 use Rattle.lines.proofs.head.read_head.Statement.{statement}
 use Rattle.lines.proofs.head.read_head.Tie as tie
@@ -64,7 +64,8 @@ formed : (c : tie.After-is-head) → c .is-head .result ≡ isHead (bytes (c .be
 unfolding isHead
 formed c =
     let parts = c .before .before in
-    cc (c .is-head .ensures, c .before .is-ended .ensures, word-is parts, method-is parts, house-is parts, count-is parts)
+    c .is-head .ensures
+    ∙ same-head (c .before .is-ended .ensures) (word-is parts) (method-is parts) (house-is parts) (count-is parts)
 
 line-end-requires : tie.Need-line-end-requires
 line-end-requires c κs = search needs

@@ -7,8 +7,10 @@ use borrow.Author.Tests.{eq-eqb, ne-eqb}
 use Rattle.fields.specs.inner.Tests.{failed, passed}
 use Rattle.fields.specs.Grammar.{fieldOf, fieldsAfter, valueOf}
 use Rattle.lines.specs.Lines.{nameAt, numberField, numberAt, isClosingLine, closingRefusal}
-use Rattle.lines.specs.inner.Lines.{closing-number}
+use Rattle.lines.specs.inner.Lines.{closing-number, same-pair}
 use Rattle.apportionment.specs.Refusals.{firstRefusal}
+use Rattle.apportionment.specs.Lists.{sameList}
+use Rattle.apportionment.specs.Text.{bytesOf}
 use borrow.Author.Needs.{needs}
 use Rattle.lines.proofs.pairs.closing_refusal.Statement.{statement}
 use Rattle.lines.proofs.pairs.closing_refusal.Tie as tie
@@ -31,13 +33,9 @@ formed : (c : tie.After-is-pair) → c .is-pair .result ≡ isClosingLine (bytes
 unfolding isClosingLine
 formed c =
     let parts = c .before .before .before .before in
-    cc (
-      c .is-pair .ensures,
-      c .before .before .before .is-ended .ensures,
-      c .before .same .ensures,
-      word-is parts,
-      digits-are parts,
-    )
+    c .is-pair .ensures
+    ∙ same-pair (c .before .before .before .is-ended .ensures)
+    (c .before .same .ensures ∙ ap (λ word. sameList word (bytesOf "total")) (word-is parts)) (digits-are parts)
 
 -- Where the total is known the line was cut.
 abbrev cut : tie.After-value → tie.After-fields-from

@@ -1,16 +1,16 @@
 -- `read_state` cuts the line once and makes the checks over its parts. What the parts and the answers are stands first.
 -- Assumes nothing.
-use mathlib.Core.Path.{_≡_, sym, ap, _∙_}
+use mathlib.Core.Path.{_≡_, sym, ap, ap₂, _∙_}
 use mathlib.Core.Bool.{true}
 use mathlib.Core.List.{List}
 use Prim.Native.Nat.{ℕ}
 use Rattle.fields.specs.inner.Tests.{failed, passed}
 use Rattle.fields.specs.Grammar.{allBetween}
-use Rattle.fields.specs.Grammar.{fieldOf, fieldsAfter, valueOf}
+use Rattle.fields.specs.Grammar.{fieldOf, fieldsAfter, valueOf, isName}
 use Rattle.lines.specs.Lines.{nameAt, numberField, numberAt, usedIn, isStateLine}
-use Rattle.lines.specs.inner.Lines.{entryRefusal, state-parts}
+use Rattle.lines.specs.inner.Lines.{entryRefusal, state-parts, same-pair}
 use Rattle.lines.specs.inner.Fingerprints.{fingerprintOf, field-end, field-plain, field-print}
-use Rattle.lines.specs.inner.Cut.{lineRefused, lineRead, line-ill-formed, line-refused, line-accepted}
+use Rattle.lines.specs.inner.Cut.{lineRefused, line-by-parts, line-ill-formed, line-refused, line-accepted}
 use borrow.Author.Needs.{needs}
 use Rattle.lines.proofs.pairs.read_state.Statement.{statement}
 use Rattle.lines.proofs.pairs.read_state.Tie as tie
@@ -41,13 +41,8 @@ formed : (c : tie.After-is-pair) → c .is-pair .result ≡ isStateLine (bytes (
 unfolding isStateLine
 formed c =
     let parts = c .before .before .before in
-    cc (
-      c .is-pair .ensures,
-      c .before .before .is-ended .ensures,
-      c .before .is-name .ensures,
-      name-is parts,
-      digits-are parts,
-    )
+    c .is-pair .ensures
+    ∙ same-pair (c .before .before .is-ended .ensures) (c .before .is-name .ensures ∙ ap isName (name-is parts)) (digits-are parts)
 
 -- What was cut, from where the population is known.
 abbrev cut : tie.After-value → tie.After-fields-from
@@ -66,7 +61,10 @@ refusal-at c =
 refusal-is : (c : tie.After-entry-refusal) → c .entry-refusal .result ≡ refusal-at (c .before .before)
 refusal-is c =
     let value = c .before .before in
-    cc (c .entry-refusal .ensures, c .before .is-used .ensures, name-is (cut value), population-is value)
+    let a = start (cut value .before .before .before .before .before) .args in
+    c .entry-refusal .ensures
+    ∙ ap₂ (λ used p. entryRefusal used (a .sum) p)
+    (c .before .is-used .ensures ∙ ap (usedIn (a .k) (a .first .now)) (name-is (cut value))) (population-is value)
 
 line-end-requires : tie.Need-line-end-requires
 line-end-requires c κs = search needs
@@ -130,15 +128,11 @@ returns-2 c =
     (λ good. c .before .if2 .taken (refusal-is (c .before .before) ∙ good)))
 
 returns-3 : tie.Need-returns-3
-unfolding lineRead
 returns-3 c =
     let value = c .before .before .before in
-    cc (
-      population-is value,
-      print-is (cut value),
-      name-is (cut value),
-      line-accepted _ _ _ _ (formed-there value) (sym (refusal-is (c .before)) ∙ c .if2 .left),
-    )
+    line-by-parts _ _ (population-is value) (print-is (cut value)) (name-is (cut value))
+    (cut value .before .before .before .before .line-end .ensures)
+    ∙ sym (line-accepted _ _ _ _ (formed-there value) (sym (refusal-is (c .before)) ∙ c .if2 .left))
 
 pub read-state-spec : {M : Type 1} → statement M
 read-state-spec =

@@ -12,7 +12,7 @@ use Rattle.lines.specs.Lines.{nameAt, numberAt, stateRefusal}
 use Rattle.lines.specs.inner.Lines.{StateSound, state-sound}
 use Rattle.lines.specs.inner.Cut.{lineRead, line-refusal, line-read}
 use Rattle.register.specs.Register.{refused, noPopulations, statesFrom, statesOf}
-use Rattle.register.specs.inner.Register.{states-none, states-refused, states-passed}
+use Rattle.register.specs.inner.Register.{states-none, states-refused, same-left, states-passed}
 use Rattle.register.specs.inner.Kept.{Kept, kept-none, kept-end, next-fits, kept-more}
 use borrow.Author.Needs.{needs}
 use native.Mathlib.Omega.{arith}
@@ -188,7 +188,7 @@ loop-again c =
           (ap (λ r. r .print) (line-is line)) (width-is line),
       at .loop .inv .4
           ∙ states-passed _ _ _ (start at .args .head .states - (at .loop .k + 1)) _ _ _ _ (omega arith) (good line)
-          ∙ cc (population-is line, c .rest-from .ensures),
+          ∙ same-left _ _ _ _ _ (at .loop .populations) (sym (population-is line)) (sym (c .rest-from .ensures)),
     )
 
 close-requires : tie.Need-close-requires Inv-loop μ-loop

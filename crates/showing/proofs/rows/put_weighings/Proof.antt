@@ -1,7 +1,7 @@
 -- `showing::rows::put_weighings` meets its contract. The loop's invariant: the lines of the first k states were written, and `row` starts
 -- at the next one's line; the measure is the states that are left.
 -- Assumes nothing.
-use mathlib.Core.Path.{_≡_, refl}
+use mathlib.Core.Path.{_≡_, refl, sym, ap, _∙_}
 use Prim.Native.Nat.{_≤_, _-_}
 use native.Mathlib.Nat.{le-trans}
 use native.Mathlib.Omega.{arith}
@@ -83,7 +83,7 @@ loop-again c =
     let at-loop = turn at-first-name in
     let rows = start at-loop .args .rows .now in (
       omega arith,
-      cc (rows-next (at-loop .loop .k) rows),
+      c .rest .ensures ∙ ap (linesAfter 1) (at-loop .loop .inv .1) ∙ sym (rows-next (at-loop .loop .k) rows),
       rw weighed-lines-more
           (wrote-then (at-loop .loop .inv .2)
           (rw (
