@@ -8,6 +8,7 @@ pub mod Standing
 pub mod Tournament
 pub mod TournamentReplay
 pub mod TournamentOrders
+pub mod Moves
 pub mod DivisorClaims
 pub mod DivisorOrder
 pub mod DivisorRounding

@@ -1,7 +1,7 @@
 // What a move makes of a state's seats, whichever method makes it.
 ghost use mathlib.Core.Path.{_≡_};
 ghost use Prim.Native.Nat.{_+_, _^_, _<_};
-ghost use Rattle.claims.specs.inner.Order.{movedBy};
+ghost use Rattle.claims.specs.inner.Moves.{movedBy};
 
 // A state's seats after a move: one more where `up` is true, and otherwise one less, or none of none.
 pub fn moved(up: bool, seats: u64) -> u64

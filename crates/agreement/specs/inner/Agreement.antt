@@ -23,6 +23,7 @@ use Rattle.apportionment.specs.Leximin.{leximinFor, startSeats, startTotal, gap
 use Rattle.claims.specs.inner.Order.{Standing, endsApart}
 use Rattle.claims.specs.inner.SizeClaims.{Positive, problem-positive, sizeTest, oneEach}
 use Rattle.claims.specs.inner.DivisorSeats.{withdrawn-at-most}
+use Rattle.claims.specs.inner.Moves.{afterMoves}
 use Rattle.claims.specs.inner.LeximinSteps.{lexMoved, no-step-made, moved-leximin, moved-standing, moved-total}
 use Rattle.claims.specs.inner.LeximinSteps.{leximin-ends-apart, ends-apart-leximin}
 use Rattle.claims.specs.inner.SizeShape.{le-or-lt}
@@ -125,7 +126,7 @@ module _ {ps : List ℕ} {P H : ℕ} (problem : Problem ps P H) (fits : length p
 
   -- No state has more seats than the house: placing ends at the house, and withdrawing begins at nearest seats.
   pub lex-within-house : (i : ℕ) → getD lex i 0 ≤ H
-  unfolding gap distance totalAfter lexMoved
+  unfolding gap distance totalAfter afterMoves
   lex-within-house i =
       either-way (ltb (startTotal ps H) H)
       (λ up.

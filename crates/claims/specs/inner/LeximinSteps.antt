@@ -2,7 +2,7 @@
 -- last one met; after every step the seats are the leximin allotment for their total, and their two ends alone tell whether seats are.
 -- Assumes nothing.
 use mathlib.Core.Path.{_≡_, sym, _∙_}
-use mathlib.Core.Bool.{true, false, cond}
+use mathlib.Core.Bool.{true, false}
 use mathlib.Core.List.{List}
 use Prim.Native.Nat.{ℕ, _+_, _<_, _≤_}
 use native.Mathlib.Nat.{le-refl}
@@ -15,9 +15,10 @@ use Rattle.apportionment.specs.inner.Lists.{sum-listOf-one}
 use Rattle.apportionment.specs.inner.Tests.{either-way}
 use Rattle.apportionment.specs.Quantities.{distance}
 use Rattle.apportionment.specs.Leximin.{startSeats, startTotal, gap, totalAfter, leximinFor}
-use Rattle.claims.specs.inner.Order.{Standing, placedTimes, withdrawnTimes, endsApart}
+use Rattle.claims.specs.inner.Order.{Standing, endsApart}
 use Rattle.claims.specs.inner.Standing.{placedTimes-standing, sum-placedTimes, withdrawnTimes-standing, sum-withdrawnTimes}
 use Rattle.claims.specs.inner.Standing.{ends-standing, standing-ends}
+use Rattle.claims.specs.inner.Moves.{afterMoves, after-none}
 use Rattle.claims.specs.inner.SizeClaims.{sizeTest, oneEach, Positive}
 use Rattle.claims.specs.inner.SizeOrder.{size-order}
 use Rattle.claims.specs.inner.Optimal.{standing-leximin}
@@ -25,16 +26,12 @@ use Rattle.claims.specs.inner.StartSeats.{start-standing}
 use Rattle.claims.specs.inner.StartBounds.{states-at-most-standing, states-at-most-start}
 
 -- The seats after m steps from the start.
-unfoldable pub lexMoved : (ps : List ℕ) (H m : ℕ) → List ℕ
-lexMoved ps H m =
-    cond (ltb (startTotal ps H) H)
-    (placedTimes (sizeTest ps H) (length ps) (startSeats ps H) m)
-    (withdrawnTimes oneEach (sizeTest ps H) (length ps) (startSeats ps H) m)
+abbrev pub lexMoved : (ps : List ℕ) (H m : ℕ) → List ℕ
+lexMoved ps H m = afterMoves (ltb (startTotal ps H) H) oneEach (sizeTest ps H) (length ps) (startSeats ps H) m
 
 -- With no step made the seats are the start.
 pub no-step-made : (ps : List ℕ) (H : ℕ) → lexMoved ps H 0 ≡ startSeats ps H
-unfolding lexMoved placedTimes withdrawnTimes
-no-step-made ps H = either-way (ltb (startTotal ps H) H) (λ up. rw up) (λ down. rw down)
+no-step-made ps H = sym (after-none (ltb (startTotal ps H) H) oneEach (sizeTest ps H) (length ps) (startSeats ps H))
 
 -- ---- the total after each step
 
@@ -55,7 +52,7 @@ module _ {ps : List ℕ} {H : ℕ} (s : Positive ps H) (fits : length ps ≤ H) 
   enough m h e = omega (arith, sum-listOf-one (length ps), states-at-most-start s, ltb-false (startTotal ps H) H e)
 
   pub moved-standing : (m : ℕ) → m ≤ gap ps H → Standing (length ps) oneEach (sizeTest ps H) (lexMoved ps H m)
-  unfolding lexMoved
+  unfolding afterMoves
   moved-standing m h =
       either-way (ltb (startTotal ps H) H)
       (λ up. rw up
@@ -65,7 +62,7 @@ module _ {ps : List ℕ} {H : ℕ} (s : Positive ps H) (fits : length ps ≤ H) 
       (enough m h down)))
 
   pub moved-total : (m : ℕ) → m ≤ gap ps H → sum (lexMoved ps H m) ≡ totalAfter ps H m
-  unfolding lexMoved totalAfter startTotal
+  unfolding afterMoves totalAfter startTotal
   moved-total m h =
       either-way (ltb (startTotal ps H) H)
       (λ up. rw up (sum-placedTimes (length ps) (sizeTest ps H) (startSeats ps H) m (s .someState) (start-standing s .states)))

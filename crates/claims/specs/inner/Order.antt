@@ -4,7 +4,7 @@
 use mathlib.Core.Path.{_≡_}
 use mathlib.Core.Bool.{Bool, true, false, not, cond}
 use mathlib.Core.List.{List}
-use Prim.Native.Nat.{ℕ, zero, suc, _+_, _-_, _<_, _≤_}
+use Prim.Native.Nat.{ℕ, zero, suc, _-_, _<_, _≤_}
 use lib.Dec.{ltb}
 use lib.ListN.{length, getD, set}
 use Rattle.apportionment.specs.Lists.{firstPlace}
@@ -69,10 +69,6 @@ oneLess xs i = set xs i (getD xs i 0 - 1)
 
 unfoldable pub withdrawn : (ℕ → ℕ) → ClaimTest → ℕ → List ℕ → List ℕ
 withdrawn lo lt n xs = oneLess xs (lastMet lo lt n xs)
-
--- A state's seats after a move: one is placed where `up` is true, and withdrawn otherwise.
-unfoldable pub movedBy : (up : Bool) → ℕ → ℕ
-movedBy up x = cond up (x + 1) (x - 1)
 
 unfoldable pub withdrawnTimes : (ℕ → ℕ) → ClaimTest → ℕ → List ℕ → ℕ → List ℕ
 withdrawnTimes lo lt n xs zero = xs

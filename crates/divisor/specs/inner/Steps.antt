@@ -18,6 +18,7 @@ use Rattle.claims.specs.inner.DivisorRounding.{rounded-standing}
 use Rattle.claims.specs.inner.DivisorSeats.{rounded-seats-at-most, method-order, standing-is-divisor}
 use Rattle.signposts.specs.inner.Claims.{aimLimit}
 use Rattle.signposts.specs.inner.Order.{ClaimsFit}
+use Rattle.claims.specs.inner.Moves.{afterMoves}
 use Rattle.divisor.specs.inner.Moves.{Moves, movedSeats}
 use Rattle.divisor.specs.inner.Rounding.{Filled, filled-length}
 
@@ -68,7 +69,7 @@ module _ {m : DivisorMethod} {ps before ss : List ℕ} {P H given : ℕ} (k : Fi
   order = method-order ps (states .someState) (states .peopled) m
 
   pub withdrawn-is-divisor : H < given → {after : List ℕ} → after ≡ movedSeats m false ps ss (given - H) → after ≡ divisorSeats m ps H
-  unfolding movedSeats
+  unfolding afterMoves
   withdrawn-is-divisor h e =
       let some = states .someState in
       let enough : sum (listOf (λ _. 0) (length ps)) + (given - H) ≤ sum ss = omega (arith, start-sum, sum-listOf-zero (length ps)) in
@@ -81,7 +82,7 @@ module _ {m : DivisorMethod} {ps before ss : List ℕ} {P H given : ℕ} (k : Fi
       ))
 
   pub placed-is-divisor : given ≤ H → {after : List ℕ} → after ≡ movedSeats m true ps ss (H - given) → after ≡ divisorSeats m ps H
-  unfolding movedSeats
+  unfolding afterMoves
   placed-is-divisor h e =
       let some = states .someState in
       e ∙ standing-is-divisor ps some (states .peopled) m _ H

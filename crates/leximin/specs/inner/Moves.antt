@@ -1,21 +1,20 @@
 -- What the moves ask, and that it holds again after a move.
 -- Assumes nothing.
-use mathlib.Core.Path.{_≡_, refl, sym, _∙_, ap, subst}
-use mathlib.Core.Bool.{Bool, true, false, cond}
+use mathlib.Core.Path.{_≡_, _∙_, subst}
+use mathlib.Core.Bool.{Bool, true, false}
 use mathlib.Core.List.{List}
 use mathlib.Core.Logic.{⊎-elim}
-use Prim.Native.Nat.{ℕ, zero, suc, _+_, _-_, _<_, _≤_, zero-le}
+use Prim.Native.Nat.{ℕ, zero, suc, _+_, _<_, _≤_, zero-le}
 use native.Mathlib.Omega.{arith}
 use native.Mathlib.Nat.{le-refl, le-trans}
-use native.Mathlib.Numerals.{add-one}
 use lib.ListN.{length, getD, set}
-use Rattle.apportionment.specs.Divisor.{oneMore}
 use Rattle.apportionment.specs.Limits.{houseLimit}
-use Rattle.apportionment.specs.Lists.{sum, firstPlace}
+use Rattle.apportionment.specs.Lists.{sum}
 use Rattle.apportionment.specs.inner.Problem.{Problem}
 use Rattle.apportionment.specs.inner.Lists.{entry-at-most-sum, sum-listOf-one}
 use Rattle.apportionment.specs.Leximin.{startSeats}
-use Rattle.claims.specs.inner.Order.{ClaimTest, firstUnmet, lastMet, placed, placedTimes, oneLess, withdrawn, withdrawnTimes, movedBy}
+use Rattle.claims.specs.inner.Order.{ClaimTest, firstUnmet, lastMet, placed, placedTimes, withdrawnTimes}
+use Rattle.claims.specs.inner.Moves.{movedBy, afterMove, afterMoves, order-agrees, first-moves, after-none, after-more, after-again}
 use Rattle.claims.specs.inner.Standing.{firstUnmet-lt, lastMet-lt, length-placedTimes, sum-placedTimes, placedTimes-standing}
 use Rattle.claims.specs.inner.Standing.{length-withdrawnTimes, withdrawnTimes-standing}
 use Rattle.claims.specs.inner.StandingMoves.{at-oneMore}
@@ -28,16 +27,15 @@ use Rattle.claims.specs.inner.TournamentReplay.{replaying-start}
 use Rattle.leximin.specs.inner.Scan.{Bounded}
 use Rattle.leximin.specs.inner.Start.{start-bounded}
 use Rattle.leximin.specs.inner.Sided.{Side, Sided, sided-long}
-use Rattle.leximin.specs.inner.Tournament.{movesBefore, Champions, Moved, moves-pass, moves-agree}
+use Rattle.leximin.specs.inner.Tournament.{Champions, Moved, moves-pass}
 
 -- One seat moved: placed where `up` is true, and withdrawn otherwise.
-unfoldable pub movedOnce : (up : Bool) (ps : List ℕ) (H : ℕ) (xs : List ℕ) → List ℕ
-movedOnce up ps H xs = cond up (placed (sizeTest ps H) (length ps) xs) (withdrawn oneEach (sizeTest ps H) (length ps) xs)
+abbrev pub movedOnce : (up : Bool) (ps : List ℕ) (H : ℕ) (xs : List ℕ) → List ℕ
+movedOnce up ps H xs = afterMove up oneEach (sizeTest ps H) (length ps) xs
 
 -- So many seats moved.
-unfoldable pub movedTimes : (up : Bool) (ps : List ℕ) (H : ℕ) (xs : List ℕ) (k : ℕ) → List ℕ
-movedTimes up ps H xs k =
-    cond up (placedTimes (sizeTest ps H) (length ps) xs k) (withdrawnTimes oneEach (sizeTest ps H) (length ps) xs k)
+abbrev pub movedTimes : (up : Bool) (ps : List ℕ) (H : ℕ) (xs : List ℕ) (k : ℕ) → List ℕ
+movedTimes up ps H xs k = afterMoves up oneEach (sizeTest ps H) (length ps) xs k
 
 -- So many can be placed if the largest house has room for them, and withdrawn if one is left for each state.
 abbrev pub Room : (up : Bool) (n : ℕ) (xs : List ℕ) (times : ℕ) → Type 0
@@ -104,32 +102,9 @@ module _ {ps : List ℕ} {P H : ℕ} (problem : Problem ps P H) where
       (withdrawnTimes-standing n oneEach lt (size-order s) start k (s .someState) (start-standing s) (rw (sum-listOf-one n) room) .least)
       (withdrawn-at-most oneEach lt n start k)
 
-pub none-moved : (up : Bool) (ps : List ℕ) (H : ℕ) (xs : List ℕ) → xs ≡ movedTimes up ps H xs 0
-unfolding movedTimes placedTimes withdrawnTimes
-none-moved true ps H xs = refl
-none-moved false ps H xs = refl
-
-pub one-more-moved : (up : Bool) (ps : List ℕ) (H : ℕ) (xs : List ℕ) (k : ℕ)
-    → movedTimes up ps H xs (k + 1) ≡ movedOnce up ps H (movedTimes up ps H xs k)
-unfolding movedTimes movedOnce placedTimes withdrawnTimes
-one-more-moved true ps H xs k = rw (add-one k)
-one-more-moved false ps H xs k = rw (add-one k)
-
--- So many moves and then so many more are the moves of the sum.
-pub moved-again : (up : Bool) (ps : List ℕ) (H : ℕ) (xs : List ℕ) (j k : ℕ)
-    → movedTimes up ps H (movedTimes up ps H xs j) k ≡ movedTimes up ps H xs (j + k)
-moved-again up ps H xs j zero = sym (none-moved up ps H (movedTimes up ps H xs j)) ∙ ap (movedTimes up ps H xs) (omega arith)
-moved-again up ps H xs j (suc k) =
-    let moved : ℕ → List ℕ = movedTimes up ps H xs in
-    ap (movedTimes up ps H (moved j)) (omega arith)
-    ∙ one-more-moved up ps H (moved j) k
-    ∙ ap (movedOnce up ps H) (moved-again up ps H xs j k)
-    ∙ sym (one-more-moved up ps H xs (j + k))
-    ∙ ap moved (omega arith)
-
 from-start-sided : {ps : List ℕ} {P H : ℕ} (up : Bool) → Problem ps P H → (k : ℕ) → Room up (length ps) (startSeats ps H) k
     → Sided up ps P H (movedTimes up ps H (startSeats ps H) k)
-unfolding movedTimes
+unfolding afterMoves
 from-start-sided true problem k room = placed-sided problem k room
 from-start-sided false problem k room = withdrawn-sided problem k room
 
@@ -141,7 +116,7 @@ room-for-fewer false n xs h room = omega (arith, h, room)
 pub moved-sided : {ps xs : List ℕ} {P H times : ℕ} (up : Bool) → Movable up ps P H xs times → (k : ℕ) → k ≤ times
     → Sided up ps P H (movedTimes up ps H xs k)
 moved-sided {ps} {xs} {P} {H} up m k h =
-    rw (m .begun, moved-again up ps H (startSeats ps H) (m .made) k)
+    rw (m .begun, after-again up oneEach (sizeTest ps H) (length ps) (startSeats ps H) (m .made) k)
     (from-start-sided up (m .problem) (m .made + k) (room-for-fewer up (length ps) (startSeats ps H) (omega (arith, h)) (m .room)))
 
 -- ---- moves by a tournament
@@ -152,15 +127,7 @@ pub record Moving (up : Bool) (ps xs₀ : List ℕ) (H done : ℕ) (xs t : List 
   pub winners : Champions up ps H xs t
 
 pub movable-sided : {up : Bool} {ps xs : List ℕ} {P H times : ℕ} → Movable up ps P H xs times → Sided up ps P H xs
-movable-sided {up} {ps} {xs} {P} {H} m = rw (none-moved up ps H xs) (moved-sided up m 0 zero-le)
-
--- A move is one by the state that a scan picks.
-moved-by-first : (up : Bool) (ps : List ℕ) (H : ℕ) (xs : List ℕ)
-    → let j = firstPlace (movesBefore up ps H xs) (length ps - 1) in
-    movedOnce up ps H xs ≡ set xs j (movedBy up (getD xs j 0))
-unfolding movedOnce movedBy movesBefore placed oneMore firstUnmet withdrawn oneLess lastMet
-moved-by-first true ps H xs = refl
-moved-by-first false ps H xs = refl
+movable-sided {up} {ps} {xs} {P} {H} m = rw (after-none up oneEach (sizeTest ps H) (length ps) xs) (moved-sided up m 0 zero-le)
 
 module _ {up : Bool} {ps xs₀ xs t : List ℕ} {P H times done : ℕ}
     (m : Movable up ps P H xs₀ times) (so-far : Moving up ps xs₀ H done xs t) where
@@ -179,13 +146,14 @@ module _ {up : Bool} {ps xs₀ xs t : List ℕ} {P H times done : ℕ}
       pub root-moved : set xs j v ≡ movedTimes up ps H xs₀ (done + 1)
       root-moved =
           let first = root-is-first (so-far .winners) (moves-pass up (moving-sided (omega arith))) (m .problem .states .someState) in
-          rw (one-more-moved up ps H xs₀ done, ← so-far .seats, moved-by-first up ps H xs, ← first, ← root) (rw move)
+          after-more up oneEach (sizeTest ps H) (length ps) xs₀ done (so-far .seats)
+          (first-moves up oneEach (sizeTest ps H) (length ps) xs (root ∙ first) move)
 
       pub root-due : Sided up ps P H (set xs j v) × Moved up ps H (set xs j v) (getD t 1 0) t
       root-due = (
         rw root-moved (moved-sided up m (done + 1) (omega arith)),
         subst (λ (i : ℕ). Moved up ps H (set xs j v) i t) root
-            record { inside = root-inside; due = replaying-start (so-far .winners) j (moves-agree up ps H xs j v) },
+            record { inside = root-inside; due = replaying-start (so-far .winners) j (order-agrees up oneEach (sizeTest ps H) xs j v) },
       )
 
 -- ---- moves by a scan

@@ -1,6 +1,6 @@
 -- From the start to the house: the moves end at the leximin allotment of the house, and there are as many as the gap.
 -- Assumes nothing.
-use mathlib.Core.Path.{_≡_, refl, sym, _∙_}
+use mathlib.Core.Path.{_≡_, sym, _∙_}
 use mathlib.Core.Bool.{true, false, cond}
 use mathlib.Core.List.{List}
 use Prim.Native.Nat.{ℕ, _-_, _<_, _≤_}
@@ -13,11 +13,12 @@ use Rattle.apportionment.specs.Quantities.{distance}
 use Rattle.apportionment.specs.Leximin.{leximinFor, startSeats, startTotal, gap}
 use Rattle.claims.specs.inner.Order.{placedTimes, withdrawnTimes, endsApart, comes, firstUnmet, lastMet}
 use Rattle.claims.specs.inner.SizeClaims.{problem-positive, sizeTest, oneEach}
-use Rattle.claims.specs.inner.LeximinSteps.{lexMoved, last-step-leximin}
+use Rattle.claims.specs.inner.Moves.{afterMoves, after-none}
+use Rattle.claims.specs.inner.LeximinSteps.{last-step-leximin}
 use Rattle.sizes.specs.inner.Sizes.{ClaimIs, lessClaim}
 use Rattle.leximin.specs.inner.Scan.{Seated, claims-compared}
 use Rattle.leximin.specs.inner.Start.{Begun}
-use Rattle.leximin.specs.inner.Moves.{movedTimes, none-moved, Movable}
+use Rattle.leximin.specs.inner.Moves.{movedTimes, Movable}
 use Rattle.sizes.specs.declared.Claim.{Claim}
 
 -- What filling hands back: the leximin allotment of the house, and the gap between the start and the house.
@@ -37,13 +38,13 @@ module _ {ps : List ℕ} {P H : ℕ} (problem : Problem ps P H) where
 
   moved-up : length ps ≤ H → startTotal ps H < H
       → placedTimes (sizeTest ps H) (length ps) (startSeats ps H) (gap ps H) ≡ leximinFor ps H H
-  unfolding lexMoved
-  moved-up fits h = rw (lt-ltb _ _ h, lexMoved) at (last-step-leximin (problem-positive problem) fits)
+  unfolding afterMoves
+  moved-up fits h = rw (lt-ltb _ _ h, afterMoves) at (last-step-leximin (problem-positive problem) fits)
 
   moved-down : length ps ≤ H → H ≤ startTotal ps H
       → withdrawnTimes oneEach (sizeTest ps H) (length ps) (startSeats ps H) (gap ps H) ≡ leximinFor ps H H
-  unfolding lexMoved
-  moved-down fits h = rw (le-ltb _ _ h, lexMoved) at (last-step-leximin (problem-positive problem) fits)
+  unfolding afterMoves
+  moved-down fits h = rw (le-ltb _ _ h, afterMoves) at (last-step-leximin (problem-positive problem) fits)
 
   module _ {xs : List ℕ} {start : ℕ} (b : Begun ps H xs start) where
     begun : xs ≡ startSeats ps H
@@ -58,7 +59,7 @@ module _ {ps : List ℕ} {P H : ℕ} (problem : Problem ps P H) where
         record {
           problem = problem;
           made = 0;
-          begun = begun ∙ none-moved true ps H (startSeats ps H);
+          begun = begun ∙ after-none true oneEach (sizeTest ps H) (length ps) (startSeats ps H);
           room = omega (arith, total, problem .houseWithin);
         }
 
@@ -68,13 +69,13 @@ module _ {ps : List ℕ} {P H : ℕ} (problem : Problem ps P H) where
         record {
           problem = problem;
           made = 0;
-          begun = begun ∙ none-moved false ps H (startSeats ps H);
+          begun = begun ∙ after-none false oneEach (sizeTest ps H) (length ps) (startSeats ps H);
           room = omega (arith, total);
         }
 
     pub placed-settled : {ys : List ℕ} → length ps ≤ H → start < H → ys ≡ movedTimes true ps H xs (H - start)
         → Settled ps H ys (H - start)
-    unfolding movedTimes
+    unfolding afterMoves
     placed-settled fits h e =
         let below : startTotal ps H < H = rw total at h in
         let whole : H - start ≡ gap ps H = rw total (sym (gap-up below)) in
@@ -82,7 +83,7 @@ module _ {ps : List ℕ} {P H : ℕ} (problem : Problem ps P H) where
 
     pub withdrawn-settled : {ys : List ℕ} → length ps ≤ H → H ≤ start
         → ys ≡ movedTimes false ps H xs (start - H) → Settled ps H ys (start - H)
-    unfolding movedTimes
+    unfolding afterMoves
     withdrawn-settled fits h e =
         let above : H ≤ startTotal ps H = rw total at h in
         let whole : start - H ≡ gap ps H = rw total (sym (gap-down above)) in

@@ -2,22 +2,21 @@
 -- where `up` is true, and withdraws one otherwise.
 -- Assumes nothing.
 use mathlib.Core.Path.{_≡_, _∙_}
-use mathlib.Core.Bool.{Bool, true, false, cond}
+use mathlib.Core.Bool.{Bool, cond}
 use mathlib.Core.List.{List}
 use Prim.Native.Nat.{ℕ, _+_, _/_, _<_, _≤_}
 use borrow.Author.Tests.{lt-ltb, le-ltb}
-use lib.ListN.{length, set}
-use Rattle.claims.specs.inner.Order.{wantsBefore, givesUpBefore}
+use lib.ListN.{length}
 use Rattle.claims.specs.inner.SizeClaims.{sizeTest, oneEach}
 use Rattle.claims.specs.inner.SizeOrder.{size-order}
 use Rattle.claims.specs.inner.Tournament.{better, Passes, Winners}
-use Rattle.claims.specs.inner.TournamentReplay.{Replaying, AgreeBut}
-use Rattle.claims.specs.inner.TournamentOrders.{wants-passes, gives-passes, wants-agree, gives-agree}
+use Rattle.claims.specs.inner.TournamentReplay.{Replaying}
+use Rattle.claims.specs.inner.Moves.{moveOrder, order-passes}
 use Rattle.leximin.specs.inner.Sided.{Sided, sided-positive}
 
 -- State i moves rather than state j.
-unfoldable pub movesBefore : (up : Bool) (ps : List ℕ) (H : ℕ) (xs : List ℕ) → ℕ → ℕ → Bool
-movesBefore up ps H xs = cond up (wantsBefore (sizeTest ps H) xs) (givesUpBefore oneEach (sizeTest ps H) xs)
+abbrev pub movesBefore : (up : Bool) (ps : List ℕ) (H : ℕ) (xs : List ℕ) → ℕ → ℕ → Bool
+movesBefore up ps H xs = moveOrder up oneEach (sizeTest ps H) xs
 
 -- The one of two states that moves.
 abbrev pub betterState : (up : Bool) (ps : List ℕ) (H : ℕ) (xs : List ℕ) → ℕ → ℕ → ℕ
@@ -46,14 +45,6 @@ pub record Moved (up : Bool) (ps : List ℕ) (H : ℕ) (xs : List ℕ) (j : ℕ)
   pub inside : j < length ps
   pub due : Replaying (movesBefore up ps H xs) (length ps) ((length ps + j) / 2) t
 
--- The order is one for a tournament, and a state's seats bear on no other states' order.
+-- The order is one for a tournament.
 pub moves-pass : {ps xs : List ℕ} {P H : ℕ} (up : Bool) → Sided up ps P H xs → Passes (length ps) (movesBefore up ps H xs)
-unfolding movesBefore
-moves-pass {ps} {xs} true s = wants-passes (size-order (sided-positive s)) xs (s .seated .least)
-moves-pass {ps} {xs} false s = gives-passes (size-order (sided-positive s)) xs
-
-pub moves-agree : (up : Bool) (ps : List ℕ) (H : ℕ) (xs : List ℕ) (j v : ℕ)
-    → AgreeBut j (movesBefore up ps H xs) (movesBefore up ps H (set xs j v))
-unfolding movesBefore
-moves-agree true ps H xs j v = wants-agree (sizeTest ps H) xs j v
-moves-agree false ps H xs j v = gives-agree (sizeTest ps H) xs j v oneEach
+moves-pass {ps} {xs} up s = order-passes (size-order (sided-positive s)) up xs (s .seated .least)

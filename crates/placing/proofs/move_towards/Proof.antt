@@ -1,12 +1,12 @@
 -- `placing::move_towards` meets its contract: with no seat to move nothing is to be shown, and otherwise the moves are made as they ask.
 -- Assumes nothing.
-use Rattle.leximin.specs.inner.Moves.{none-moved}
+use Rattle.claims.specs.inner.Moves.{after-none}
 use borrow.Author.Needs.{needs}
 use Rattle.placing.proofs.move_towards.Statement.{statement}
 use Rattle.placing.proofs.move_towards.Tie as tie
 
 returns : tie.Need-returns
-returns c = rw (c .if1 .taken) (none-moved _ _ _ _)
+returns c = rw (c .if1 .taken) (after-none _ _ _ _ _)
 
 total-of-requires : tie.Need-total-of-requires
 total-of-requires c κs = search needs

@@ -12,12 +12,13 @@ use borrow.Author.Tests.{ltb-true, ltb-false, lt-ltb, le-ltb, eqb-true, eqb-fals
 use Rattle.apportionment.specs.Limits.{stateLimit}
 use Rattle.apportionment.specs.Quantities.{distance}
 use Rattle.apportionment.specs.Leximin.{leximinFor, startSeats, startTotal, gap, totalAfter}
-use Rattle.claims.specs.inner.SizeClaims.{Positive, problem-positive}
+use Rattle.claims.specs.inner.Moves.{after-none, after-again}
+use Rattle.claims.specs.inner.SizeClaims.{Positive, problem-positive, sizeTest, oneEach}
 use Rattle.claims.specs.inner.StartBounds.{gap-below-states}
-use Rattle.claims.specs.inner.LeximinSteps.{lexMoved, moved-leximin}
+use Rattle.claims.specs.inner.LeximinSteps.{moved-leximin}
 use Rattle.problem.specs.inner.Passed.{Openable, open-passed}
 use Rattle.problem.specs.inner.Total.{cappedTotal}
-use Rattle.leximin.specs.inner.Moves.{movedTimes, none-moved, moved-again, Room, Movable}
+use Rattle.leximin.specs.inner.Moves.{movedTimes, Room, Movable}
 use Rattle.apportionment.specs.inner.Tests.{cond-both, either-way}
 use Rattle.agreement.specs.inner.Agreement.{lex-states}
 use Rattle.placing.specs.Placing.{padded, placingAt, peopleOf}
@@ -116,7 +117,6 @@ module _ (p : Placing) (g : Genuine p) where
 
       -- So the seats are those that the steps made give from the start ..
       own-moved : take (p .states) (p .seats) ≡ movedTimes up ps (p .house) (startSeats ps (p .house)) (p .steps)
-      unfolding movedTimes lexMoved
       own-moved =
           first-seats
           ∙ sym (moved-leximin positive (opened .seatForEach) (p .steps) (g .few))
@@ -138,10 +138,9 @@ module _ (p : Placing) (g : Genuine p) where
           }
 
       moved-later : movedTimes up ps (p .house) (take (p .states) (p .seats)) t ≡ lex (p .steps + t)
-      unfolding movedTimes lexMoved
       moved-later =
           ap (λ (xs : List ℕ). movedTimes up ps (p .house) xs t) own-moved
-          ∙ moved-again up ps (p .house) (startSeats ps (p .house)) (p .steps) t
+          ∙ after-again up oneEach (sizeTest ps (p .house)) (length ps) (startSeats ps (p .house)) (p .steps) t
           ∙ ap (λ (b : Bool). movedTimes b ps (p .house) (startSeats ps (p .house)) (p .steps + t)) (sym start-side)
           ∙ moved-leximin positive (opened .seatForEach) (p .steps + t) steps-left
 
@@ -164,7 +163,7 @@ module _ (p : Placing) (g : Genuine p) where
         (λ e.
         let none : t ≡ 0 = eqb-true t 0 e in
         ap (movedTimes up ps (p .house) (take (p .states) (p .seats))) none
-        ∙ sym (none-moved up ps (p .house) (take (p .states) (p .seats)))
+        ∙ sym (after-none up oneEach (sizeTest ps (p .house)) (length ps) (take (p .states) (p .seats)))
         ∙ first-seats ∙ ap lex (omega (arith, none)))
         (λ e. moved-later (eqb-false t 0 e))
 

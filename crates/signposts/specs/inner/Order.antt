@@ -1,15 +1,14 @@
 -- Which state moves first, by its claim: seats are placed where `up` and withdrawn otherwise.
 -- Assumes nothing.
 use mathlib.Core.Path.{_≡_}
-use mathlib.Core.Bool.{Bool, true, false}
+use mathlib.Core.Bool.{Bool}
 use mathlib.Core.List.{List}
 use Prim.Native.Nat.{ℕ, _-_, _<_, _≤_}
 use native.Mathlib.Omega.{arith}
 use lib.ListN.{length, getD}
 use Rattle.apportionment.specs.Lists.{firstPlace}
 use Rattle.apportionment.specs.declared.DivisorMethod.{DivisorMethod}
-use Rattle.claims.specs.inner.Order.{wantsBefore}
-use Rattle.claims.specs.inner.Order.{givesUpBefore}
+use Rattle.claims.specs.inner.Moves.{moveOrder}
 use Rattle.claims.specs.inner.StandingOrder.{firstPlace-le}
 use Rattle.claims.specs.inner.DivisorClaims.{methodTest}
 use Rattle.signposts.specs.inner.Claims.{ClaimFits}
@@ -35,9 +34,8 @@ abbrev pub noFewest : ℕ → ℕ
 noFewest i = 0
 
 -- State i moves before state j.
-unfoldable pub movesBefore : DivisorMethod → Bool → (ps ss : List ℕ) → ℕ → ℕ → Bool
-movesBefore m true ps ss = wantsBefore (methodTest m ps) ss
-movesBefore m false ps ss = givesUpBefore noFewest (methodTest m ps) ss
+abbrev pub movesBefore : DivisorMethod → Bool → (ps ss : List ℕ) → ℕ → ℕ → Bool
+movesBefore m up ps ss = moveOrder up noFewest (methodTest m ps) ss
 
 -- The state that moves first.
 abbrev pub firstToMove : DivisorMethod → Bool → (ps ss : List ℕ) → ℕ

@@ -2,7 +2,7 @@
 -- Assumes nothing.
 use native.Mathlib.Omega.{arith}
 use borrow.Author.Needs.{needs}
-use Rattle.claims.specs.inner.Order.{movedBy}
+use Rattle.claims.specs.inner.Moves.{movedBy}
 use Rattle.claims.proofs.moves.moved.Statement.{statement}
 use Rattle.claims.proofs.moves.moved.Tie as tie
 

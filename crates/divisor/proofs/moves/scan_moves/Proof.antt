@@ -4,7 +4,8 @@ use mathlib.Core.Path.{_≡_, sym, _∙_}
 use Prim.Native.Nat.{_-_, _≤_}
 use native.Mathlib.Omega.{arith}
 use borrow.Author.Needs.{needs}
-use Rattle.divisor.specs.inner.Moves.{movedSeats, moved-none, moved-more, moved-fits}
+use Rattle.claims.specs.inner.Moves.{after-none, after-more}
+use Rattle.divisor.specs.inner.Moves.{movedSeats, moved-fits}
 use Rattle.divisor.proofs.moves.scan_moves.Statement.{statement}
 use Rattle.divisor.proofs.moves.scan_moves.Tie as tie
 
@@ -15,7 +16,7 @@ abbrev μ-loop : tie.MeasureT-loop
 μ-loop method up populations times seats₀ done₀ seats done = times - done
 
 loop-holds : tie.Need-loop-holds Inv-loop μ-loop
-loop-holds c = (omega arith, sym (moved-none _ _ _ _))
+loop-holds c = (omega arith, after-none _ _ _ _ _)
 
 scan-one-requires : tie.Need-scan-one-requires Inv-loop μ-loop
 scan-one-requires c κs =
@@ -33,7 +34,7 @@ loop-again : tie.Need-loop-again Inv-loop μ-loop
 loop-again c =
     let made = c .before .before in
     let turn = made .before .before .before .loop in
-    (omega arith, moved-more _ _ _ _ (turn .done) (turn .inv .1) (made .scan-one .ensures))
+    (omega arith, after-more _ _ _ _ _ (turn .done) (turn .inv .1) (made .scan-one .ensures))
 
 same-length : tie.Need-same-length Inv-loop μ-loop
 same-length c =

@@ -2,7 +2,7 @@
 -- Assumes nothing.
 use native.Mathlib.Omega.{arith}
 use borrow.Author.Needs.{needs}
-use Rattle.divisor.specs.inner.Moves.{moved-once}
+use Rattle.claims.specs.inner.Moves.{first-moves}
 use Rattle.divisor.proofs.moves.scan_one.Statement.{statement}
 use Rattle.divisor.proofs.moves.scan_one.Tie as tie
 
@@ -31,7 +31,7 @@ same-length : tie.Need-same-length
 same-length c = search needs
 
 returns : tie.Need-returns
-returns c = moved-once _ _ _ _ (c .before .before .first-to-move .ensures .first) (c .moved .ensures)
+returns c = first-moves _ _ _ _ _ (c .before .before .first-to-move .ensures .first) (c .moved .ensures)
 
 pub scan-one-spec : {M : Type 1} → statement M
 scan-one-spec =

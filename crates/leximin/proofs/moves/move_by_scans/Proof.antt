@@ -6,8 +6,9 @@ use mathlib.Core.Path.{_≡_, sym, _∙_}
 use Prim.Native.Nat.{_≤_, _-_}
 use native.Mathlib.Omega.{arith}
 use native.Mathlib.Nat.{le-antisymm}
+use Rattle.claims.specs.inner.Moves.{after-none, after-more}
 use Rattle.leximin.specs.inner.Sided.{sided-long}
-use Rattle.leximin.specs.inner.Moves.{movedTimes, none-moved, one-more-moved, moved-sided, movable-sided}
+use Rattle.leximin.specs.inner.Moves.{movedTimes, moved-sided, movable-sided}
 use Rattle.leximin.proofs.moves.move_by_scans.Statement.{statement}
 use Rattle.leximin.proofs.moves.move_by_scans.Tie as tie
 
@@ -18,7 +19,7 @@ abbrev μ-loop : tie.MeasureT-loop
 μ-loop up populations seats₀ total house times done₀ seats done = times - done
 
 loop-holds : tie.Need-loop-holds Inv-loop μ-loop
-loop-holds c = (search needs, none-moved _ _ _ _)
+loop-holds c = (search needs, after-none _ _ _ _ _)
 
 move-once-requires : tie.Need-move-once-requires Inv-loop μ-loop
 move-once-requires c κs =
@@ -37,7 +38,7 @@ loop-again c =
     let at-move-once = c .before .before in
     let at-loop-test = at-move-once .before .before in
     let at-loop = at-loop-test .before in
-    (omega (arith, at-loop-test .loop-test .taken), rw (one-more-moved, ← at-loop .loop .inv .1) (at-move-once .move-once .ensures))
+    (omega (arith, at-loop-test .loop-test .taken), after-more _ _ _ _ _ _ (at-loop .loop .inv .1) (at-move-once .move-once .ensures))
 
 same-length : tie.Need-same-length Inv-loop μ-loop
 same-length c =

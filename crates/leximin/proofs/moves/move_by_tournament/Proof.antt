@@ -6,8 +6,9 @@ use mathlib.Core.Path.{sym, _∙_}
 use Prim.Native.Nat.{_≤_, _-_}
 use native.Mathlib.Omega.{arith}
 use native.Mathlib.Nat.{le-antisymm}
+use Rattle.claims.specs.inner.Moves.{after-none}
 use Rattle.leximin.specs.inner.Sided.{sided-long}
-use Rattle.leximin.specs.inner.Moves.{Moving, none-moved, movable-sided, moving-sided}
+use Rattle.leximin.specs.inner.Moves.{Moving, movable-sided, moving-sided}
 use Rattle.leximin.specs.inner.Moves.{root-inside, root-has-seats, root-moved, root-due}
 use Rattle.leximin.proofs.moves.move_by_tournament.Statement.{statement}
 use Rattle.leximin.proofs.moves.move_by_tournament.Tie as tie
@@ -25,7 +26,7 @@ build-requires c κs =
     (movable-sided (start .pre .0), start .pre .1)
 
 loop-holds : tie.Need-loop-holds Inv-loop μ-loop
-loop-holds c = (search needs, record { seats = none-moved _ _ _ _; winners = c .before .before .build .ensures })
+loop-holds c = (search needs, record { seats = after-none _ _ _ _ _; winners = c .before .before .build .ensures })
 
 slice-read-root : tie.Need-slice-read-root Inv-loop μ-loop
 slice-read-root c =

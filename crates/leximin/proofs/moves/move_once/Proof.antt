@@ -1,7 +1,7 @@
 -- `leximin::moves::move_once` meets its contract: the direction picks the case of the definition.
 -- Assumes nothing.
 use mathlib.Core.Path.{_∙_}
-use Rattle.leximin.specs.inner.Moves.{movedOnce}
+use Rattle.claims.specs.inner.Moves.{afterMove}
 use borrow.Author.Needs.{needs}
 use Rattle.leximin.proofs.moves.move_once.Statement.{statement}
 use Rattle.leximin.proofs.moves.move_once.Tie as tie
@@ -13,7 +13,7 @@ same-length : tie.Need-same-length
 same-length c = search needs
 
 returns : tie.Need-returns
-unfolding movedOnce
+unfolding afterMove
 returns c =
     let at-place = c .before .before in
     let at-if1 = at-place .before .before in
@@ -26,7 +26,7 @@ same-length-2 : tie.Need-same-length-2
 same-length-2 c = search needs
 
 returns-2 : tie.Need-returns-2
-unfolding movedOnce
+unfolding afterMove
 returns-2 c =
     let at-withdraw = c .before .before in
     let at-if1 = at-withdraw .before .before in
