@@ -1,5 +1,7 @@
 // What the numbers and the lists of a placing must agree in: its steps with its total, and its total with its seats. No step is replayed,
 // since seats that stand in the order of claims are fixed by their total: passes over the states tell it however many steps were made.
+#![tactic(auto)]
+
 pub mod lists;
 
 ghost use Rattle.std.specs.Prelude.{◌≡◌, ◌≤◌, length};

@@ -1,5 +1,7 @@
 // Allotting: the operation that the desk exists for. A method, a house, populations and a lent list for seats go in; the list holds the
 // method's allotment, or is untouched where a refusal is given.
+#![tactic(auto)]
+
 ghost use Rattle.std.specs.Prelude.{◌≡◌, true, ◌≤◌, length};
 ghost use Rattle.apportionment.specs.Allotment.{seats_every_state};
 ghost use Rattle.apportionment.specs.inner.Problem.{Fillable};

@@ -1,6 +1,8 @@
 // The allotment program: a register on standard input, or the file that the one argument names; on standard output its listing, or
 // `refused`, a number and a line. All that matters is `listing::print`; this file only moves bytes. A register that could only be read in
 // part is not listed: it would look like one that was cut short.
+#![tactic(auto)]
+
 fn print_listing(register: &[u8]) {
     let mut page = [0u8; listing::LISTING_ROOM];
     let size = listing::print(register, &mut page);

@@ -1,5 +1,6 @@
 // The ground layer: the words of the trade (methods, marks, limits) and, in specs/, what each of them means.
 // Every other crate states its contracts by the definitions of this crate's specs/.
+#![tactic(auto)]
 
 pub mod methods;
 pub mod refusals;
@@ -8,7 +9,7 @@ ghost use Rattle.std.specs.Prelude.{◌≡◌};
 ghost use Rattle.apportionment.specs.Refusals.{within, outside};
 
 // The eight methods, in the order in which document 01 names them; quota joined them last.
-#[derive(Drop)]
+#[derive(Clone, Copy)]
 pub enum Method {
     Leximin,
     Adams,
@@ -21,7 +22,7 @@ pub enum Method {
 }
 
 // The five of them that meet claims in order by signposts d(a).
-#[derive(Drop)]
+#[derive(Clone, Copy)]
 pub enum DivisorMethod {
     Adams,
     Dean,
@@ -31,7 +32,7 @@ pub enum DivisorMethod {
 }
 
 // How far a state's departure goes; None where the state has no seat.
-#[derive(Drop)]
+#[derive(Clone, Copy)]
 pub enum Mark {
     In,
     High,

@@ -1,5 +1,7 @@
 // The search for the bar: the precedence that parts the states which have one of the seats that are left from those which have none. It
 // compares precedences and knows nothing else of them.
+#![tactic(auto)]
+
 ghost use Rattle.std.specs.Prelude.{◌≡◌, ◌≤◌, ◌<◌, min, max, length};
 ghost use Rattle.bar.specs.inner.Reaching.{reaching};
 ghost use Rattle.bar.specs.inner.Search.{NotBelow, NotAbove, DrawnUp, DrawnDown, HoldsBar, Narrower, Searchable, BarFound};

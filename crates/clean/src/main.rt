@@ -1,6 +1,8 @@
 // The clean program: a register on standard input, or the file that the one argument names; on standard output its clean copy, or
 // `refused`, a number and a line. All that matters is `cleaning::print`; this file only moves bytes. A register that could only be read in
 // part is not copied: its copy would look like that of one that was cut short.
+#![tactic(auto)]
+
 fn print_clean(register: &[u8]) {
     let mut page = [0u8; cleaning::CLEAN_ROOM];
     let size = cleaning::print(register, &mut page);

@@ -1,4 +1,6 @@
 // Clean copies: each register that is read has one clean form, with LF and without leading zeros, which is written here.
+#![tactic(auto)]
+
 ghost use Rattle.std.specs.Prelude.{[], ◌≤◌, length};
 ghost use Rattle.apportionment.specs.Refusals.{accepted};
 ghost use Rattle.register.specs.Register.{name_in_row};

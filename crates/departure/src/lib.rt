@@ -1,5 +1,7 @@
 // The layer of departures: how far a state's people per seat are from the average, as an exact fraction, rounded to be shown,
 // and marked.
+#![tactic(auto)]
+
 ghost use Rattle.std.specs.Prelude.{◌≡◌, ◌^◌, ◌<◌, nat_abs, pos, ◌-ℤ◌};
 ghost use Rattle.apportionment.specs.Quantities.{at_most, shown_size, mark_of};
 ghost use Rattle.departure.specs.inner.Exact.{Moderate, exact_of, shown, signed, size};

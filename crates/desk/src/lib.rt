@@ -1,5 +1,7 @@
 // The C interface, as include/desk.h words it: each operation over numbers and what is lent, with its record handed back by value. An enum
 // is a number here, and the part of a register that holds a name is its start and length; placings are as crate `placing` lays them out.
+#![tactic(auto)]
+
 ghost use Rattle.std.specs.Prelude.{◌≡◌, length};
 ghost use Rattle.std.proofs.Math.Option.{some};
 ghost use Rattle.apportionment.specs.Refusals.{accepted};

@@ -1,4 +1,6 @@
 // Handing a finished text over to a lent buffer: how every operation ends that writes into one.
+#![tactic(auto)]
+
 ghost use Rattle.std.specs.Prelude.{◌≡◌};
 ghost use Rattle.apportionment.specs.Refusals.{accepted};
 ghost use Rattle.handover.specs.Handover.{refused, WritingIs};

@@ -1,5 +1,7 @@
 // Keys, whole numbers that order quotients exactly, and tournaments of them: a leaf for each place, and at each inner place the one of its
 // two with the larger key, of equal keys the earlier. The root is the first of all.
+#![tactic(auto)]
+
 ghost use Rattle.std.specs.Prelude.{◌≡◌, ◌*◌, ◌/◌, ◌<◌, ◌≤◌, length, set};
 ghost use Rattle.apportionment.specs.Limits.{house_limit, sum_limit};
 ghost use Rattle.claims.specs.inner.Tournament.{better};

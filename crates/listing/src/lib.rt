@@ -1,4 +1,6 @@
 // The listing of a register: its allotment, line by line, as document 01 lays it out.
+#![tactic(auto)]
+
 mod rows;
 
 ghost use Rattle.std.specs.Prelude.{◌≡◌, ◌≤◌, length};

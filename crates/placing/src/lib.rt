@@ -1,5 +1,7 @@
 // The placing: leximin's work seat by seat. Opening hands back each state's nearest seats, and a move takes a placing so many seats towards
 // the house; a placing that opening and moves did not give is told from one that they did, and left as it was.
+#![tactic(auto)]
+
 mod genuine;
 
 ghost use Rattle.std.specs.Prelude.{◌≡◌, cond, ◌+◌, ◌-◌, ◌≤◌, min, ltb};

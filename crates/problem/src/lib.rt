@@ -1,6 +1,8 @@
 // The checks that allotting and opening share: refusals 10 to 15 of document 01, each given when its check is the first to fail.
 // Each check is a function of its own, true where it fails, and asks nothing of its caller, so that a desk may hand on whatever it was
 // lent.
+#![tactic(auto)]
+
 ghost use Rattle.std.specs.Prelude.{◌≡◌};
 ghost use Rattle.apportionment.specs.Allotment.{states_outside, house_outside, has_zero, sum_outside, seats_every_state, seats_too_few};
 ghost use Rattle.apportionment.specs.Allotment.{allot_refusal, open_refusal};

@@ -1,6 +1,8 @@
 // The quota method of Balinski and Young. By its definition it gives one seat after another and goes through all states for each. Here
 // every state starts from the whole part of its share, which it has in the end, and only the few seats beyond are given by turns, each at
 // the number where the method has room for it. That this comes to the same seats is the theory's (specs/inner).
+#![tactic(auto)]
+
 pub mod due;
 pub mod rounds;
 pub mod start;

@@ -1,4 +1,6 @@
 // Reading a register, and the names of its states. Crates that need the names of a register that was read go by `rows`.
+#![tactic(auto)]
+
 pub mod rows;
 mod states;
 

@@ -1,4 +1,6 @@
 // Largest remainders: each state has its whole part, and those of the highest precedence the seats that are left.
+#![tactic(auto)]
+
 ghost use Rattle.std.specs.Prelude.{◌≡◌, length};
 ghost use Rattle.apportionment.specs.Remainders.{remainder_seats};
 ghost use Rattle.apportionment.specs.inner.Problem.{Fillable};

@@ -1,6 +1,8 @@
 // Leximin's work, shown: the text of a placing's start, of each step with what was weighed before it, and of its end. The work is leximin's
 // whatever method a register names; the first line says so. A caller writes one block at a time to the front of a lent page, which has room
 // for every block (specs/inner/Room.antt). Each placing is one that opening and steps gave; specs/inner/Showable.antt says what it offers.
+#![tactic(auto)]
+
 mod rows;
 
 ghost use Rattle.std.specs.Prelude.{◌≡◌, [], ◌≤◌, length};

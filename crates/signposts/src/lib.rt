@@ -1,5 +1,7 @@
 // The layer of signposts: the table that gives them; claims, which are the order d(a) / w of a state's next seat as a fraction of two
 // words; their exact comparison; and which state moves first by them.
+#![tactic(auto)]
+
 pub mod order;
 mod table;
 

@@ -1,4 +1,6 @@
 // Sizes of departures and claims by them, as leximin orders them: exact comparisons of two fractions in machine words.
+#![tactic(auto)]
+
 pub mod quotients;
 
 ghost use Rattle.std.specs.Prelude.{◌≡◌, ◌+◌};

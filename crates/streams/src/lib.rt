@@ -1,4 +1,6 @@
 // Registers in and text out, for the programs that people run. What the system cannot hand over or take is told on standard error.
+#![tactic(auto)]
+
 ghost use Rattle.io.specs.Counts.{IsPrefixLen};
 
 use apportionment::REGISTER_LIMIT;

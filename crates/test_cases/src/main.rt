@@ -1,6 +1,8 @@
 // Runs the cases of the file `stdin`, a line each, and compares. Each line is written as it stands there, then `: as expected`; or
 // `: not so, `, what the desk answered from the first difference on, and `: DIFFERS`. The last line has the number of cases. The file's
 // first lines say how a case is written; what is ill-formed or too long is told in capitals.
+#![tactic(auto)]
+
 mod answers;
 mod cases;
 mod numbers;

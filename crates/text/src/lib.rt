@@ -1,5 +1,7 @@
 // The words, numbers and lines of the desk's texts, written into a lent buffer as the crate `writing` writes: from place `at` on, handing
 // back the place after what was written.
+#![tactic(auto)]
+
 pub mod answers;
 
 ghost use Rattle.apportionment.specs.Methods.{method_text};

@@ -1,5 +1,7 @@
 // The layer of exact arithmetic at the edges of a word: products of two 64-bit numbers compared where one word cannot hold them, and the
 // size of a signed number.
+#![tactic(auto)]
+
 ghost use Rattle.std.specs.Prelude.{◌≡◌, true, ◌+◌, ◌*◌, ◌^◌, ◌<◌, ltb, nat_abs};
 
 // Half a word: a number is split into two digits of base 2^32.

@@ -2,6 +2,8 @@
 // each step every state as it is and as it would be, the step, and at last the house. docs/PROGRAMS.md has the format. The register comes
 // on standard input, or from each file that the arguments name, in turn; a refused one prints `refused`, a number and a line alone. All
 // that is shown is written by crate `showing`; this file only moves bytes and placings.
+#![tactic(auto)]
+
 ghost use Rattle.std.specs.Prelude.{◌≡◌, true};
 ghost use Rattle.showing.specs.inner.Showable.{Showable, ShowableStep};
 ghost use Rattle.work.specs.inner.Way.{Begun, on_the_way, way_of};

@@ -2,6 +2,8 @@
 // once something did not fit, that is one past the buffer's length, and every later call leaves it there and the buffer as it is. So a
 // caller writes all that it has and asks once, at the end, whether it fitted. No function reads the place as an index before it is known
 // to be one.
+#![tactic(auto)]
+
 ghost use Rattle.std.specs.Prelude.{◌≡◌, ◌∷◌, [], ◌+◌, ◌<◌, ◌≤◌, length};
 ghost use Rattle.apportionment.specs.Text.{decimal, digit};
 ghost use Rattle.writing.specs.inner.Writing.{Wrote, laid};

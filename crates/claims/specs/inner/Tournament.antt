@@ -98,6 +98,7 @@ module _ (before : ℕ → ℕ → Bool) where
   -- One place more of a scan: the better of the best so far and the next place.
   pub scan_next : (i : ℕ) → 0 < i → better before (first_place before (i - 1)) i ≡ first_place before (i + 1 - 1)
   unfolding first_place
+  scan_next zero h = elim h [ ]
   scan_next (suc k) h =
       let last : suc k - 1 ≡ k = omega arith in
       let next : suc k + 1 - 1 ≡ suc k = omega arith in

@@ -1,0 +1,18 @@
+-- `is_method_field` tests the length from both sides, and then the bytes.
+use borrow.Author.Tests.{le-leb, lt-leb, eq-eqb, ne_eqb}
+use Rattle.apportionment.specs.Refusals.{within}
+use Rattle.fields.specs.Grammar.{is_method_field}
+use Rattle.fields.proofs.words.is_method_field.Goals as goal
+
+pub returns-then-f-eq0 : goal.returns-then-f-eq0
+unfolding is_method_field within
+returns-then-f-eq0 c = simp (eq-eqb _ _ c.if-f-eq0.true)
+
+pub returns-then-f-gt-WORD_LIMIT : goal.returns-then-f-gt-WORD_LIMIT
+unfolding is_method_field within
+returns-then-f-gt-WORD_LIMIT c = simp (ne_eqb _ _ c.if-f-eq0.false, lt-leb _ _ c.if-f-gt-WORD_LIMIT.true)
+
+pub returns : goal.returns
+unfolding is_method_field within
+returns c =
+    simp (ne_eqb _ _ c.if-f-eq0.false, le-leb _ _ c.if-f-gt-WORD_LIMIT.false, c.all_between.ensures)
