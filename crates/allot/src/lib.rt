@@ -18,14 +18,14 @@ use quota::fill_quota;
 use remainders::fill_remainders;
 
 // The number of the refusal, or 0, and the steps from the start to the house under leximin, 0 under the other methods.
-#[derive(Drop)]
+#[derive(Clone, Copy)]
 pub struct Allotted {
     pub refusal: u64,
     pub steps: u64,
 }
 
 // How a method allots: in a way of its own, or as a divisor method.
-#[derive(Drop)]
+#[derive(Clone, Copy)]
 pub enum Way {
     Leximin,
     Divisor(DivisorMethod),

@@ -90,7 +90,7 @@ fn drawn_down(precedences: &[u64], low: u64, high: u64) -> u64
 
 // Where the bar lies: from `low` to `high`, with so many states above `high`. The other two only say whether drawing an end in pays, and no
 // proof relies on them: it does where at most `over` states are above a new upper end, or at least `from` at a new lower one or above.
-#[derive(Drop)]
+#[derive(Clone, Copy)]
 pub struct Range {
     pub low: u64,
     pub high: u64,

@@ -12,14 +12,14 @@ use apportionment::refusals::{ACCEPTED, DEPARTURE_OUT_OF_LIMITS};
 use apportionment::{HOUSE_LIMIT, Mark, SUM_LIMIT, outside};
 
 // A departure, exactly: (p H - a P) / (a P), not reduced.
-#[derive(Drop)]
+#[derive(Clone, Copy)]
 pub struct Departure {
     pub numerator: i64,
     pub denominator: u64,
 }
 
 // What the departure operation answers. Its number and values in document 01's terms are `number_of`, `shown_in` and `mark_in`.
-#[derive(Drop)]
+#[derive(Clone, Copy)]
 pub enum Answer {
     // Refusal 30.
     Refused,

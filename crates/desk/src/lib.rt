@@ -30,7 +30,7 @@ use register::{Reading, name_refusal, read, rows};
 const MARK_NONE: u64 = 3;
 
 #[repr(C)]
-#[derive(Drop)]
+#[derive(Clone, Copy)]
 pub struct DeskReading {
     pub refusal: u64,
     pub line: u64,
@@ -42,14 +42,14 @@ pub struct DeskReading {
 }
 
 #[repr(C)]
-#[derive(Drop)]
+#[derive(Clone, Copy)]
 pub struct DeskAllotted {
     pub refusal: u64,
     pub steps: u64,
 }
 
 #[repr(C)]
-#[derive(Drop)]
+#[derive(Clone, Copy)]
 pub struct DeskShown {
     pub refusal: u64,
     pub shown: i64,
@@ -57,7 +57,7 @@ pub struct DeskShown {
 }
 
 #[repr(C)]
-#[derive(Drop)]
+#[derive(Clone, Copy)]
 pub struct DeskWritten {
     pub refusal: u64,
     pub line: u64,
@@ -65,7 +65,7 @@ pub struct DeskWritten {
 }
 
 #[repr(C)]
-#[derive(Drop)]
+#[derive(Clone, Copy)]
 pub struct DeskPart {
     pub refusal: u64,
     pub line: u64,

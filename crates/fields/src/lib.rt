@@ -10,7 +10,7 @@ pub mod words;
 use apportionment::Method;
 
 // What a method field names.
-#[derive(Drop)]
+#[derive(Clone, Copy)]
 pub enum Named {
     Known(Method),
     Unknown,

@@ -9,7 +9,7 @@ use apportionment::refusals;
 use writing::put_bytes;
 
 // What such an operation answers: a refusal's number and line, or 0, 0 and the text's length.
-#[derive(Drop)]
+#[derive(Clone, Copy)]
 pub struct Written {
     pub refusal: u64,
     pub line: u64,

@@ -8,14 +8,14 @@ ghost use Rattle.leximin.specs.inner.Scan.{Bounded, better_candidate, GiverAt, b
 use sizes::{Claim, claim_less, claim_of};
 
 // The best state of those looked at: its place and its claim.
-#[derive(Drop)]
+#[derive(Clone, Copy)]
 pub struct Candidate {
     pub place: usize,
     pub claim: Claim,
 }
 
 // A state that may give up a seat: whether it has more than one, and the claim that its last seat met.
-#[derive(Drop)]
+#[derive(Clone, Copy)]
 pub struct Giver {
     pub place: usize,
     pub spares: bool,

@@ -11,7 +11,7 @@ const SPAN: u64 = 4_294_967_296;
 const COMMA: u8 = 44;
 
 // The first field of a line, looked at once: where it ends, whether each of its bytes may stand in a name, and its fingerprint.
-#[derive(Drop)]
+#[derive(Clone, Copy)]
 pub struct Field {
     pub end: usize,
     pub plain: bool,

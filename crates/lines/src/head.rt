@@ -7,7 +7,7 @@ use apportionment::{HOUSE_LIMIT, Method, STATE_LIMIT, outside, refusals};
 use fields::{Named, cut, numbers, parts, words};
 
 // What line 1 says, or its refusal; 0 is no refusal. Refused, the rest is 0 and the method is leximin.
-#[derive(Drop)]
+#[derive(Clone, Copy)]
 pub struct Head {
     pub refusal: u64,
     pub method: Method,

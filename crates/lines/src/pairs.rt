@@ -13,7 +13,7 @@ use apportionment::{SUM_LIMIT, outside, refusals};
 use fields::{cut, numbers, parts, words};
 
 // What a state's line says: its refusal, or 0 and the population, the name's fingerprint and length, and the place where the line ends.
-#[derive(Drop)]
+#[derive(Clone, Copy)]
 pub struct StateLine {
     pub refusal: u64,
     pub population: u64,

@@ -23,7 +23,7 @@ use problem::{open_refusal, total_of};
 // Populations, house and seats, in arrays that hold 0 past their `states` places; the seats' total; the seats moved since opening. C and
 // Rust hold it as it is laid out here.
 #[repr(C)]
-#[derive(Drop)]
+#[derive(Clone, Copy)]
 pub struct Placing {
     pub states: usize,
     pub house: u64,
@@ -35,7 +35,7 @@ pub struct Placing {
 
 // What opening hands back: a placing, with the number of the refusal, or 0.
 #[repr(C)]
-#[derive(Drop)]
+#[derive(Clone, Copy)]
 pub struct Placed {
     pub refusal: u64,
     pub placing: Placing,
@@ -43,14 +43,14 @@ pub struct Placed {
 
 // What a move answers: the number of the refusal, or 0, and how many seats were moved.
 #[repr(C)]
-#[derive(Drop)]
+#[derive(Clone, Copy)]
 pub struct Moved {
     pub refusal: u64,
     pub moved: u64,
 }
 
 // The answer of a move, and the placing that it leaves.
-#[derive(Drop)]
+#[derive(Clone, Copy)]
 pub struct MovedOn {
     pub answer: Moved,
     pub placing: Placing,

@@ -8,7 +8,7 @@ ghost use Rattle.quota.specs.inner.Marks.{Markable, Marked, Ready};
 ghost use Rattle.quota.specs.inner.Spots.{Onward, Moved};
 
 // Where the next seat of a state is counted: a P / p as its whole part, which is the place, and what is left of it.
-#[derive(Drop)]
+#[derive(Clone, Copy)]
 pub struct Spot {
     pub place: u64,
     pub rest: u64,

@@ -14,7 +14,7 @@ use apportionment::{Method, REGISTER_LIMIT, STATE_LIMIT};
 use lines::head;
 
 // What reading gives. Refused, all but the number and the line is 0, and the method is leximin.
-#[derive(Drop)]
+#[derive(Clone, Copy)]
 pub struct Reading {
     pub refusal: u64,
     pub line: u64,
@@ -26,7 +26,7 @@ pub struct Reading {
 }
 
 // A refusal's number and line; 0 and 0 for none.
-#[derive(Drop)]
+#[derive(Clone, Copy)]
 pub struct Refusal {
     pub number: u64,
     pub line: u64,

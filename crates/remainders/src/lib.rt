@@ -29,7 +29,7 @@ fn precedence(population: u64, whole: u64, total: u64, house: u64) -> u64
 const LARGEST: u64 = 18_446_744_073_709_551_615;
 
 // What filling hands back: the seats given as whole parts, and the least and the greatest precedence.
-#[derive(Drop)]
+#[derive(Clone, Copy)]
 struct Parts {
     given: u64,
     least: u64,

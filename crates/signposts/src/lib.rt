@@ -14,7 +14,7 @@ use crate::table::signpost_of;
 use apportionment::DivisorMethod;
 
 // A claim d(a) / w; also a signpost d(a), the claim of a weight of 1.
-#[derive(Drop)]
+#[derive(Clone, Copy)]
 pub struct Claim {
     pub over: u64,
     pub under: u64,

@@ -9,14 +9,14 @@ ghost use Rattle.sizes.specs.inner.Sizes.{WithSeats, SizeIs, less_size, Small, f
 
 // A size |p H - a P| / a. The factor P of its denominator is the same for every size of a problem, so it is left out, and products of
 // two such numbers stay below 2^63.
-#[derive(Drop)]
+#[derive(Clone, Copy)]
 pub struct Size {
     pub over: u64,
     pub under: u64,
 }
 
 // The two sizes of a claim: at the seats that the state has, and with one more.
-#[derive(Drop)]
+#[derive(Clone, Copy)]
 pub struct Claim {
     pub old: Size,
     pub new: Size,

@@ -1,0 +1,54 @@
+-- `sizes::quotients::climbs_before` meets its contract: the products fit, and the tests that were made pick the case of the order by
+-- quotients, which is the order of claims at or above the start.
+use mathlib.Core.Path.{◌∙◌}
+use native.Mathlib.Omega.{arith}
+use borrow.Author.Tests.{lt-ltb, le-ltb}
+use Rattle.claims.specs.inner.SizeQuotients.{climbs_before}
+use Rattle.sizes.specs.inner.Quotients.{climbs_compared, products_fit}
+use Rattle.sizes.specs.inner.Sizes.{sizes_compared}
+use Rattle.sizes.proofs.quotients.climbs_before.Goals as goal
+
+pub overflow_mul-own : goal.overflow_mul-own
+overflow_mul-own c = omega (arith, products_fit c.requires.0.0 c.requires.1.0)
+
+pub overflow_mul-other : goal.overflow_mul-other
+overflow_mul-other c = omega (arith, products_fit c.requires.1.0 c.requires.0.0)
+
+pub returns-then-other-own : goal.returns-then-other-own
+unfolding climbs_before
+returns-then-other-own c =
+    simp (climbs_compared c.requires.0 c.requires.1, lt-ltb _ _ c.if-other-own.true, c.rises.ensures)
+
+pub returns-then-rises : goal.returns-then-rises
+unfolding climbs_before
+returns-then-rises c =
+    simp (
+      climbs_compared c.requires.0 c.requires.1,
+      le-ltb _ _ c.if-other-own.false,
+      lt-ltb _ _ c.if-own-other.true,
+      ← c.rises-then-own-other.ensures,
+      c.if-rises.true,
+    )
+
+pub returns-then-own-other : goal.returns-then-own-other
+unfolding climbs_before
+returns-then-own-other c =
+    simp (
+      climbs_compared c.requires.0 c.requires.1,
+      le-ltb _ _ c.if-other-own.false,
+      lt-ltb _ _ c.if-own-other.true,
+      ← c.rises-then-own-other.ensures,
+      c.if-rises.false,
+      c.rises-then-own-other-2.ensures,
+    )
+
+pub returns : goal.returns
+unfolding climbs_before
+returns c =
+    let people = c.requires.0.0.state.peopled in
+    simp (
+      climbs_compared c.requires.0 c.requires.1,
+      le-ltb _ _ c.if-other-own.false,
+      le-ltb _ _ c.if-own-other.false,
+      c.size_less.ensures ∙ sizes_compared people c.size_of-other_size.ensures c.size_of-own_size.ensures,
+    )
