@@ -1,7 +1,7 @@
 -- A state's departure as text: what an answer of the departure operation is written as within the limits, and how long that can be.
 -- Assumes nothing.
 use Rattle.std.specs.Prelude.{◌≡◌, refl, Bool, true, false, cond, ℕ, zero, suc, ◌+◌, ◌-◌, ◌*◌, ◌/◌, ◌<◌, ◌≤◌, eqb, ℤ, pos, neg_ℤ}
-use Rattle.std.proofs.Math.Option.{none, some, Option·elim}
+use Rattle.std.proofs.Math.Option.{none, some, Option-elim}
 use mathlib.Core.List.{List}
 use Rattle.std.proofs.Common.{pos_of_ne-zero, arith, eq-eqb}
 use Rattle.std.proofs.lemmas.Bool.{eqb-false}
@@ -21,8 +21,8 @@ use Rattle.text.specs.inner.Bounds.{shown_size_length}
 -- ---- what an answer is written as
 
 shown_or_none : (t : Bool) (s : ℤ)
-    → Option·elim (cond t none (some s)) (bytes_of "none") shown_text ≡ cond t (bytes_of "none") (shown_text s)
-unfolding Option·elim
+    → Option-elim (cond t none (some s)) (bytes_of "none") shown_text ≡ cond t (bytes_of "none") (shown_text s)
+unfolding Option-elim
 shown_or_none true s = refl
 shown_or_none false s = refl
 
@@ -31,13 +31,13 @@ module _ {p a P H : ℕ} {answer : Answer} (within : InLimits p a P H) (is : Ans
   not_refused = eq-eqb (departure_refusal p a P H) accepted ((accepted_exactly p a P H).1 within)
 
   -- Within the limits an answer's shown departure is written as the state's ..
-  pub answered_departure : Option·elim (shown_in answer) (bytes_of "none") shown_text ≡ departure_text p a P H
+  pub answered_departure : Option-elim (shown_in answer) (bytes_of "none") shown_text ≡ departure_text p a P H
   unfolding departure_text departure_shown
   answered_departure = rw (is.shown, not_refused) (shown_or_none (eqb a 0) (shown_of p a P H))
 
   -- .. and its mark as the state's.
-  pub answered_mark : Option·elim (mark_in answer) (bytes_of "none") mark_text ≡ mark_text (mark_for p a P H)
-  unfolding departure_mark Option·elim
+  pub answered_mark : Option-elim (mark_in answer) (bytes_of "none") mark_text ≡ mark_text (mark_for p a P H)
+  unfolding departure_mark Option-elim
   answered_mark = rw (is.mark, not_refused)
 
 -- ---- how long it can be
