@@ -1,9 +1,8 @@
 -- `read_head` cuts the line once. What its parts are stands first.
-use mathlib.Core.Path.{◌≡◌, ap, ◌∙◌}
+use mathlib.Core.Path.{sym, ◌≡◌, ap, ◌∙◌}
 use mathlib.Core.List.{List}
 use Prim.Native.Nat.{ℕ}
 use Rattle.fields.specs.Grammar.{line_of, field_of, fields_after}
-use Rattle.fields.specs.inner.Tests.{failed, passed}
 use Rattle.lines.specs.Lines.{method_field, house_field, count_field, is_head}
 use Rattle.lines.specs.inner.Lines.{head_numbers, head_by_parts, same_head}
 use Rattle.lines.proofs.head.read_head.Goals as goal
@@ -42,26 +41,26 @@ formed c = c.is_head.ensures
     ∙ same_head c.is_ended.ensures (word-is (goal.at.After-is_head c).After-fields_from-count) (method-is (goal.at.After-is_head c).After-fields_from-count) (house-is (goal.at.After-is_head c).After-fields_from-count) (count-is (goal.at.After-is_head c).After-fields_from-count)
 
 pub returns-then-not-is_head : goal.returns-then-not-is_head
-returns-then-not-is_head c = c.refused.ensures ∙ simp (head_by_parts, failed (formed (goal.at.returns-then-not-is_head c).After-is_head) c.if-not-is_head.true)
+returns-then-not-is_head c = c.refused.ensures ∙ simp (head_by_parts, sym (formed (goal.at.returns-then-not-is_head c).After-is_head) ∙ c.if-not-is_head.true)
 
 pub value-requires : goal.value-requires
 value-requires c =
     rw
     (house-is (goal.at.value-requires c).After-fields_from-count)
-    (head_numbers _ (passed (formed (goal.at.value-requires c).After-is_head) c.if-not-is_head.false)).0
+    (head_numbers _ (sym (formed (goal.at.value-requires c).After-is_head) ∙ c.if-not-is_head.false)).0
 
 pub value-requires-2 : goal.value-requires-2
 value-requires-2 c =
     rw
     (count-is (goal.at.value-requires-2 c).After-fields_from-count)
-    (head_numbers _ (passed (formed (goal.at.value-requires-2 c).After-is_head) c.if-not-is_head.false)).1
+    (head_numbers _ (sym (formed (goal.at.value-requires-2 c).After-is_head) ∙ c.if-not-is_head.false)).1
 
 pub returns : goal.returns
 returns c =
     c.says.ensures
     ∙ simp (
       head_by_parts,
-      passed (formed ((goal.at.returns c).After-is_head)) c.if-not-is_head.false,
+      sym (formed ((goal.at.returns c).After-is_head)) ∙ c.if-not-is_head.false,
       c.method_named.ensures,
       c.value.ensures,
       c.value-2.ensures,

@@ -3,7 +3,6 @@ use mathlib.Core.Path.{◌≡◌, sym, ap, ◌∙◌}
 use mathlib.Core.List.{List}
 use Prim.Native.Nat.{ℕ}
 use borrow.Author.Tests.{eq-eqb, ne_eqb}
-use Rattle.fields.specs.inner.Tests.{failed, passed}
 use Rattle.fields.specs.Grammar.{field_of, fields_after, value_of}
 use Rattle.lines.specs.Lines.{name_at, number_field, number_at, is_closing_line, closing_refusal}
 use Rattle.lines.specs.inner.Lines.{closing_number, same_pair}
@@ -25,15 +24,15 @@ digits_are : (c : After-fields_from-digits) → c.fields_from-digits.result.now 
 unfolding number_field
 digits_are c = c.fields_from-digits.ensures ∙ ap fields_after c.line_to-line.ensures
 
-formed : (c : After-is_pair) → c.is_pair.result ≡ is_closing_line (bytes (goal.at.After-is_pair c).After-is_ended)
+formed : (c : After-is_pair) → c.is_pair.result ≡ is_closing_line (bytes (goal.at.After-is_pair c).After-fields_from-digits)
 unfolding is_closing_line
 formed c = c.is_pair.ensures
     ∙ same_pair c.is_ended.ensures
-    (c.same.ensures ∙ ap (λ word. same_list word (bytes_of "total")) (word-is (goal.at.After-is_pair c).After-is_ended)) (digits_are (goal.at.After-is_pair c).After-is_ended)
+    (c.same.ensures ∙ ap (λ word. same_list word (bytes_of "total")) (word-is (goal.at.After-is_pair c).After-fields_from-digits)) (digits_are (goal.at.After-is_pair c).After-fields_from-digits)
 
 -- Where the total is known the line was cut.
 abbrev cut : After-value-total → After-fields_from-digits
-cut c = (goal.at.After-value-total c).After-is_ended
+cut c = (goal.at.After-value-total c).After-fields_from-digits
 
 total-is : (c : After-value-total) → c.value-total.result ≡ number_at (bytes (cut c))
 unfolding number_at
@@ -41,17 +40,17 @@ total-is c = c.value-total.ensures ∙ ap value_of (digits_are (cut c))
 
 pub returns-then-not-is_pair : goal.returns-then-not-is_pair
 unfolding closing_refusal first_refusal
-returns-then-not-is_pair c = simp (failed (formed (goal.at.returns-then-not-is_pair c).After-is_pair) c.if-not-is_pair.true)
+returns-then-not-is_pair c = simp (sym (formed (goal.at.returns-then-not-is_pair c).After-is_pair) ∙ c.if-not-is_pair.true)
 
 pub value-total-requires : goal.value-total-requires
 value-total-requires c =
-    rw (digits_are (goal.at.value-total-requires c).After-is_ended) (closing_number _ (passed (formed (goal.at.value-total-requires c).After-is_pair) c.if-not-is_pair.false))
+    rw (digits_are (goal.at.value-total-requires c).After-fields_from-digits) (closing_number _ (sym (formed (goal.at.value-total-requires c).After-is_pair) ∙ c.if-not-is_pair.false))
 
 pub returns-then-outside : goal.returns-then-outside
 unfolding closing_refusal first_refusal
 returns-then-outside c =
     simp (
-      passed (formed (goal.at.returns-then-outside c).After-is_pair) c.if-not-is_pair.false,
+      sym (formed (goal.at.returns-then-outside c).After-is_pair) ∙ c.if-not-is_pair.false,
       rw (total-is (goal.at.returns-then-outside c).After-value-total) at (sym c.outside.ensures ∙ c.if-outside.true),
     )
 
@@ -59,7 +58,7 @@ pub returns-then-total-sum : goal.returns-then-total-sum
 unfolding closing_refusal first_refusal
 returns-then-total-sum c =
     simp (
-      passed (formed (goal.at.returns-then-total-sum c).After-is_pair) c.if-not-is_pair.false,
+      sym (formed (goal.at.returns-then-total-sum c).After-is_pair) ∙ c.if-not-is_pair.false,
       rw (total-is (goal.at.returns-then-total-sum c).After-value-total) at (sym c.outside.ensures ∙ c.if-outside.false),
       rw (total-is (goal.at.returns-then-total-sum c).After-value-total) at (ne_eqb _ _ c.if-total-sum.true),
     )
@@ -68,7 +67,7 @@ pub returns : goal.returns
 unfolding closing_refusal first_refusal
 returns c =
     simp (
-      passed (formed (goal.at.returns c).After-is_pair) c.if-not-is_pair.false,
+      sym (formed (goal.at.returns c).After-is_pair) ∙ c.if-not-is_pair.false,
       rw (total-is (goal.at.returns c).After-value-total) at (sym c.outside.ensures ∙ c.if-outside.false),
       rw (total-is (goal.at.returns c).After-value-total) at (eq-eqb _ _ c.if-total-sum.false),
     )

@@ -5,30 +5,17 @@ use borrow.Author.Count.{below_more}
 use Rattle.apportionment.specs.Lists.{same_list}
 use Rattle.lines.specs.inner.Places.{name_on, kept_printed, used_on, used_on_none}
 use Rattle.lines.proofs.pairs.is_kept.Goals as goal
-use Rattle.lines.proofs.pairs.is_kept.Goals.{After-is_name_there, After-shared_slice_known-5-1, At-loop-i, Start}
-
--- Where the turn of the loop starts.
-abbrev turn : After-is_name_there → At-loop-i
-turn c = (goal.at.After-is_name_there c).At-loop-i
-
--- Where nothing is done yet.
-abbrev start : After-shared_slice_known-5-1 → Start
-start c = (goal.at.After-shared_slice_known-5-1 c).Start
+use Rattle.lines.proofs.pairs.is_kept.Goals.{After-is_name_there}
 
 -- The answer of a turn is that for the name on its line.
-answer-is :
-    (c : After-is_name_there)
-    → let args = (start (turn c).before).args in
-    same_list (name_on (turn c).loop-i.i args.first.now) args.name.now ≡ c.is_name_there.result
+answer-is : (c : After-is_name_there) → same_list (name_on c.loop-i.i c.args.first.now) c.args.name.now ≡ c.is_name_there.result
 answer-is c =
-    let name = (start (turn c).before).args.name.now in
-    ap (λ part. same_list part name) (sym ((turn c).loop-i.invariant.0.places.each (turn c).loop-i.i (omega arith)).there)
+    ap (λ part. same_list part c.args.name.now) (sym (c.loop-i.invariant.0.places.each c.loop-i.i (omega arith)).there)
     ∙ sym c.is_name_there.ensures
 
 pub loop-i-init : goal.loop-i-init
 loop-i-init c =
-    let pre = (start (goal.at.loop-i-init c).After-shared_slice_known-5-1).requires in
-    (pre.0, pre.1, omega arith, λ j below. absurd (omega arith))
+    (c.requires.0, c.requires.1, omega arith, λ j below. absurd (omega arith))
 
 pub offset_bounds-starts-i : goal.offset_bounds-starts-i
 offset_bounds-starts-i c = omega (arith, c.loop-i.invariant.0.places.few)
@@ -66,11 +53,11 @@ is_name_there-requires c =
     (kept_printed inv.0 _ (omega arith), inv.1)
 
 pub returns-then-is_name_there : goal.returns-then-is_name_there
-returns-then-is_name_there c = sym (used_on _ _ _ (turn (goal.at.returns-then-is_name_there c).After-is_name_there).loop-i.i (omega arith) (answer-is (goal.at.returns-then-is_name_there c).After-is_name_there ∙ c.if-is_name_there.true))
+returns-then-is_name_there c = sym (used_on _ _ _ c.loop-i.i (omega arith) (answer-is (goal.at.returns-then-is_name_there c).After-is_name_there ∙ c.if-is_name_there.true))
 
 pub loop-i-preserved : goal.loop-i-preserved
 loop-i-preserved c =
-    let inv = (turn (goal.at.loop-i-preserved c).After-is_name_there).loop-i.inv in
+    let inv = c.loop-i.invariant in
     (inv.0, inv.1, omega arith, below_more (λ j. same_list (name_on j _) _ ≡ false) _ inv.3 (answer-is (goal.at.loop-i-preserved c).After-is_name_there ∙ c.if-is_name_there.false))
 
 pub returns : goal.returns

@@ -3,7 +3,6 @@ use mathlib.Core.Path.{◌≡◌, sym, ap, ap₂, ◌∙◌}
 use mathlib.Core.Bool.{true}
 use mathlib.Core.List.{List}
 use Prim.Native.Nat.{ℕ}
-use Rattle.fields.specs.inner.Tests.{failed, passed}
 use Rattle.fields.specs.Grammar.{all_between}
 use Rattle.fields.specs.Grammar.{field_of, fields_after, value_of, is_name}
 use Rattle.lines.specs.Lines.{name_at, number_field, number_at, used_in, is_state_line}
@@ -11,15 +10,11 @@ use Rattle.lines.specs.inner.Lines.{entry_refusal, state_parts, same_pair}
 use Rattle.lines.specs.inner.Fingerprints.{fingerprint_of, field_end, field_plain, field_print}
 use Rattle.lines.specs.inner.Cut.{line_refused, line_by_parts, line_ill_formed_lem, line_refused_lem, line_accepted}
 use Rattle.lines.proofs.pairs.read_state.Goals as goal
-use Rattle.lines.proofs.pairs.read_state.Goals.{After-entry_refusal-refusal, After-fields_from-digits, After-is_pair, After-shared_slice_known-5-1, After-value-population, Start}
-
--- Where nothing is cut yet.
-abbrev start : After-shared_slice_known-5-1 → Start
-start c = (goal.at.After-shared_slice_known-5-1 c).Start
+use Rattle.lines.proofs.pairs.read_state.Goals.{After-entry_refusal-refusal, After-fields_from-digits, After-is_pair, After-value-population}
 
 -- The bytes from the line on.
 abbrev bytes : After-fields_from-digits → List ℕ
-bytes c = (start (goal.at.After-fields_from-digits c).After-shared_slice_known-5-1).args.s.now
+bytes c = c.args.s.now
 
 name-is : (c : After-fields_from-digits) → c.field_to-name.result.now ≡ name_at (bytes c)
 unfolding name_at
@@ -51,11 +46,11 @@ population-is c = c.value-population.ensures ∙ ap value_of (digits_are (cut c)
 -- The refusal that the definition gives.
 abbrev refusal-at : After-value-population → ℕ
 refusal-at c =
-    let a = (start (cut c).before).args in
+    let a = c.args in
     entry_refusal (used_in a.k a.first.now (name_at a.s.now)) a.sum (number_at a.s.now)
 
 refusal_is : (c : After-entry_refusal-refusal) → c.entry_refusal-refusal.result ≡ refusal-at (goal.at.After-entry_refusal-refusal c).After-value-population
-refusal_is c = let a = (start (cut (goal.at.After-entry_refusal-refusal c).After-value-population).before).args in
+refusal_is c = let a = c.args in
     c.entry_refusal-refusal.ensures
     ∙ ap₂ (λ used p. entry_refusal used a.sum p)
     (c.is_used-used.ensures ∙ ap (used_in a.k a.first.now) (name-is (cut (goal.at.After-entry_refusal-refusal c).After-value-population))) (population-is (goal.at.After-entry_refusal-refusal c).After-value-population)
@@ -74,22 +69,22 @@ is_name-requires c =
 
 pub returns-then-not-is_pair : goal.returns-then-not-is_pair
 returns-then-not-is_pair c =
-    c.refused.ensures ∙ sym (line_ill_formed_lem _ _ _ _ (failed (formed (goal.at.returns-then-not-is_pair c).After-is_pair) c.if-not-is_pair.true))
+    c.refused.ensures ∙ sym (line_ill_formed_lem _ _ _ _ (sym (formed (goal.at.returns-then-not-is_pair c).After-is_pair) ∙ c.if-not-is_pair.true))
 
 pub value-population-requires : goal.value-population-requires
 value-population-requires c =
-    rw (digits_are (goal.at.value-population-requires c).After-fields_from-digits) (state_parts _ (passed (formed (goal.at.value-population-requires c).After-is_pair) c.if-not-is_pair.false)).1
+    rw (digits_are (goal.at.value-population-requires c).After-fields_from-digits) (state_parts _ (sym (formed (goal.at.value-population-requires c).After-is_pair) ∙ c.if-not-is_pair.false)).1
 
 pub is_used-used-requires : goal.is_used-used-requires
 is_used-used-requires c =
-    ((start (cut (goal.at.is_used-used-requires c).After-value-population).before).requires.1, print-is (cut (goal.at.is_used-used-requires c).After-value-population))
+    (c.requires.1, print-is (goal.at.is_used-used-requires c).After-fields_from-digits)
 
 pub entry_refusal-refusal-requires : goal.entry_refusal-refusal-requires
-entry_refusal-refusal-requires c = (start (cut (goal.at.entry_refusal-refusal-requires c).After-value-population).before).requires.0
+entry_refusal-refusal-requires c = c.requires.0
 
 -- The line is well-formed where the population is known.
 formed-there : (c : After-value-population) → is_state_line (bytes (cut c)) ≡ true
-formed-there c = passed (formed (goal.at.After-value-population c).After-is_pair) c.if-not-is_pair.false
+formed-there c = (sym (formed (goal.at.After-value-population c).After-is_pair) ∙ c.if-not-is_pair.false)
 
 pub returns-then-refusal-ne0 : goal.returns-then-refusal-ne0
 returns-then-refusal-ne0 c =
@@ -102,5 +97,5 @@ returns-then-refusal-ne0 c =
 pub returns : goal.returns
 returns c =
     line_by_parts _ _ (population-is (goal.at.returns c).After-value-population) (print-is (cut (goal.at.returns c).After-value-population)) (name-is (cut (goal.at.returns c).After-value-population))
-    (cut (goal.at.returns c).After-value-population).line_end-end.ensures
+    c.line_end-end.ensures
     ∙ sym (line_accepted _ _ _ _ (formed-there (goal.at.returns c).After-value-population) (sym (refusal_is (goal.at.returns c).After-entry_refusal-refusal) ∙ c.if-refusal-ne0.false))
