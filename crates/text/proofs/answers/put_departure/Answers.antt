@@ -1,4 +1,5 @@
 -- `text::answers::put_departure` meets its contract: each arm writes the text of what its answer shows.
+use borrow.Author.Rules.{rules}
 use mathlib.Core.Option.{Option-elim}
 use mir.Syntax.{w64}
 use mir.ValLaws.{to_z-of_z}
@@ -20,6 +21,6 @@ unfolding shown_in Option-elim
 returns-in-Shown c =
     rw (
       c.in-Shown.is,
-      ← to_z-of_z w64 c.in-Shown.shown (record { sfits = c.in-Shown.given.0.1 }),
+      ← to_z-of_z w64 c.in-Shown.shown (search rules),
     )
     c.put_shown.ensures
