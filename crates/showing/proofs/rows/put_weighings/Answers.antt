@@ -1,0 +1,58 @@
+use mathlib.Core.Path.{◌≡◌, refl, sym, ap, ◌∙◌}
+use native.Mathlib.Nat.{le_trans}
+use native.Mathlib.Omega.{arith}
+use lib.ListN.{length}
+use Rattle.register.specs.Register.{lines_after}
+use Rattle.register.specs.inner.Rows.{rows_next, name_of_first}
+use Rattle.showing.specs.Work.{weighed_lines}
+use Rattle.showing.specs.inner.Work.{weighed_at, weighed_lines_more}
+use Rattle.writing.specs.inner.Writing.{wrote_then, wrote_length}
+use Rattle.showing.proofs.rows.put_weighings.Goals as goal
+
+pub loop-k-init : goal.loop-k-init
+unfolding lines_after weighed_lines
+loop-k-init c = (omega arith, refl, c.requires.0)
+
+pub offset_bounds-seats-k : goal.offset_bounds-seats-k
+offset_bounds-seats-k c = omega (arith, c.requires.1.as_they_are.paired)
+
+pub bounds-seats-k : goal.bounds-seats-k
+bounds-seats-k c = omega (arith, c.requires.1.as_they_are.paired)
+
+pub seats_if_moved-requires : goal.seats_if_moved-requires
+seats_if_moved-requires c =
+    let fit = c.requires.1 in
+    let moved = fit.as_they_would_be c.loop-k.k (omega arith) in
+    (fit.seated c.loop-k.k (omega arith), le_trans moved.seats_within_lem moved.house_limited)
+
+pub put_weighed-next-requires : goal.put_weighed-next-requires
+put_weighed-next-requires c =
+    let fit = c.requires.1 in (
+      fit.as_they_are.each c.loop-k.k (omega arith),
+      rw c.seats_if_moved.ensures (fit.as_they_would_be c.loop-k.k (omega arith)),
+    )
+
+pub loop-k-preserved : goal.loop-k-preserved
+unfolding weighed_at
+loop-k-preserved c =
+    let rows = c.args.rows.now in (
+      omega arith,
+      c.rest-later.ensures ∙ ap (lines_after 1) c.loop-k.invariant.1 ∙ sym (rows_next c.loop-k.k rows),
+      rw weighed_lines_more
+          (wrote_then c.loop-k.invariant.2
+          (rw (
+            c.seats_if_moved.ensures,
+            c.first_name.ensures,
+            c.loop-k.invariant.1,
+            name_of_first c.loop-k.k rows,
+          ) at
+          c.put_weighed-next.ensures)),
+    )
+
+pub shape_of-out : goal.shape_of-out
+shape_of-out c = wrote_length c.loop-k.invariant.2
+
+pub returns : goal.returns
+returns c =
+    let all : c.loop-k.k ≡ length c.args.populations.now = omega arith in
+    rw all at c.loop-k.invariant.2
