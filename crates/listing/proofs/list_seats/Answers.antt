@@ -1,0 +1,31 @@
+-- `listing::list_seats` meets its contract: the whole listing stands at the front of the page, from which it is handed over.
+use mathlib.Core.Path.{refl, sym}
+use mathlib.Core.List.{List}
+use Prim.Native.Nat.{ℕ}
+use lib.Seq.{length-take-le}
+use Rattle.register.specs.Register.{name_in_row}
+use Rattle.writing.specs.inner.Writing.{AtFront, wrote_front}
+use Rattle.listing.specs.Listing.{listing_in}
+use Rattle.listing.specs.inner.Room.{listing_has_room}
+use Rattle.handover.specs.inner.Handover.{handed_over}
+use Rattle.listing.proofs.list_seats.Goals as goal
+use Rattle.listing.proofs.list_seats.Goals.{After-put_listing-size}
+
+abbrev listing : After-put_listing-size → List ℕ
+listing c =
+    let args = c.args in
+    listing_in args.reading (name_in_row args.rows.now) args.seats.now
+
+-- The listing stands at the front of the page.
+front-of-page : (c : After-put_listing-size) → AtFront (listing c) c.put_listing-size.new.out c.put_listing-size.result
+front-of-page c = wrote_front c.put_listing-size.ensures (listing_has_room c.requires.listable)
+
+pub slice_bounds-page-end : goal.slice_bounds-page-end
+slice_bounds-page-end c = (front-of-page (goal.at.slice_bounds-page-end c).After-put_listing-size).within
+
+pub slice_bounds-hand_over-end : goal.slice_bounds-hand_over-end
+slice_bounds-hand_over-end c = sym (length-take-le _ _ (front-of-page (goal.at.slice_bounds-hand_over-end c).After-put_listing-size).within)
+
+pub returns : goal.returns
+returns c =
+    handed_over refl (front-of-page (goal.at.returns c).After-put_listing-size) c.hand_over.ensures

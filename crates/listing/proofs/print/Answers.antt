@@ -1,0 +1,19 @@
+-- `listing::print` meets its contract: the page has room for every listing and for a refusal's line.
+use native.Mathlib.Omega.{arith}
+use Rattle.handover.specs.inner.Handover.{text_printed, refusal_printed}
+use Rattle.listing.specs.inner.Listed.{listing_in_page}
+use borrow.Author.Rules.{rules}
+use Rattle.listing.proofs.print.Goals as goal
+
+pub returns-then-listed-eq-ACCEPTED : goal.returns-then-listed-eq-ACCEPTED
+returns-then-listed-eq-ACCEPTED c =
+    let printed = text_printed c.write_listing-listed.ensures (listing_in_page _ (search rules)) c.if-listed-eq-ACCEPTED.true in
+    record { wrote = printed.0; fits = printed.1 }
+
+pub returns : goal.returns
+returns c =
+    let printed =
+    refusal_printed
+    c.write_listing-listed.ensures (listing_in_page _ (search rules)) c.if-listed-eq-ACCEPTED.false (search rules)
+    (omega (arith, c.struct_known-1.given)) (search rules) c.put_refusal.ensures in
+    record { wrote = printed.0; fits = printed.1 }

@@ -1,0 +1,33 @@
+-- `listing::put_listing` meets its contract: the head, the states' lines and the totals, one after the other.
+use native.Mathlib.Omega.{arith}
+use mathlib.Core.Path.{sym}
+use lib.Seq.{length-take-le}
+use Rattle.writing.specs.inner.Writing.{wrote_on, wrote_then}
+use Rattle.problem.specs.inner.Total.{total_is_sum}
+use Rattle.listing.specs.Listing.{listing_in}
+use Rattle.listing.specs.inner.Room.{listable_rows}
+use Rattle.listing.proofs.put_listing.Goals as goal
+
+pub slice_bounds-populations-end : goal.slice_bounds-populations-end
+slice_bounds-populations-end c = c.requires.listable.each_read
+
+pub slice_bounds-put_states-end : goal.slice_bounds-put_states-end
+slice_bounds-put_states-end c = sym (length-take-le _ _ c.requires.listable.each_read)
+
+pub put_states-states-requires : goal.put_states-states-requires
+put_states-states-requires c =
+    let pre = c.requires in
+    let all = length-take-le c.args.reading.states c.args.reading.populations pre.listable.each_read in
+    record { begun = (wrote_on c.put_head-head.ensures, listable_rows pre.listable); placed = rw all pre.placed }
+
+pub returns : goal.returns
+unfolding listing_in
+returns c =
+    let states = rw
+    (length-take-le c.args.reading.states c.args.reading.populations c.requires.listable.each_read) at
+    c.put_states-states.ensures in
+    let total = rw (
+      c.total_of.ensures,
+      total_is_sum c.args.seats.now (omega (arith, c.requires.listable.house_seated, c.requires.listable.house_limited)),
+    ) at c.put_total.ensures in
+    wrote_then (wrote_then c.put_head-head.ensures states) total
