@@ -28,7 +28,8 @@ use Rattle.apportionment.specs.declared.Method.TheVariants.{Leximin, Adams, Dean
 use Rattle.apportionment.specs.inner.Problem.{Problem}
 use Rattle.claims.specs.Growth.{Allots, OneGains, house_monotone, AlabamaParadox}
 use Rattle.claims.specs.Growth.{factor, grew_at_least_as, loses_to, population_monotone, PopulationParadox}
-use Rattle.claims.specs.inner.Growth.{none_loses, divisor_one_more, divisor_no_loss}
+use Rattle.claims.specs.inner.Growth.{none_loses, divisor_one_more}
+use Rattle.claims.proofs.Growth.{divisor_no_loss}
 use Rattle.problem.specs.inner.Passed.{allot_passed}
 use Rattle.quota.specs.inner.Serving.{problem_peopled}
 use Rattle.quota.specs.inner.Quota.{quota_one_more}
