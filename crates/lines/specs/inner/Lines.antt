@@ -88,24 +88,23 @@ pub record HeadSound (head : Head) : Type 0 where
 abbrev read_of : List ℕ → Head
 read_of s = head_read (method_named (method_field s)) (value_of (house_field s)) (value_of (count_field s))
 
-accepted_sound : (s : List ℕ) → head_refusal s ≡ accepted → HeadSound (read_of s)
-unfolding head_refusal head_read
-accepted_sound s good =
-    let line = check_passed (not (is_head s)) _ _ (omega arith) good in
-    let method = check_passed (is_unknown (method_named (method_field s))) _ _ (omega arith) line.1 in
-    let house = check_passed (outside house_limit (value_of (house_field s))) _ _ (omega arith) method.1 in
-    let states = check_passed (outside state_limit (value_of (count_field s))) _ _ (omega arith) house.1 in
-    record {
-      house = inside_limits house_limit (value_of (house_field s)) house.0;
-      states = inside_limits state_limit (value_of (count_field s)) states.0;
-    }
-
 pub head_sound : (s : List ℕ) → (head_of s).refusal ≡ accepted → HeadSound (head_of s)
-unfolding head_of head_refused
+unfolding head_of head_refused head_refusal head_read
 head_sound s good =
     either_way (eqb (head_refusal s) accepted)
-    (λ here. rw here (accepted_sound s (eqb-true (head_refusal s) accepted here)))
+    (λ here. rw here (sound (eqb-true (head_refusal s) accepted here)))
     (λ here. absurd (eqb-false (head_refusal s) accepted here (rw here at good)))
+  where
+    sound : head_refusal s ≡ accepted → HeadSound (read_of s)
+    sound none =
+        let line = check_passed (not (is_head s)) _ _ (omega arith) none in
+        let method = check_passed (is_unknown (method_named (method_field s))) _ _ (omega arith) line.1 in
+        let house = check_passed (outside house_limit (value_of (house_field s))) _ _ (omega arith) method.1 in
+        let states = check_passed (outside state_limit (value_of (count_field s))) _ _ (omega arith) house.1 in
+        record {
+          house = inside_limits house_limit (value_of (house_field s)) house.0;
+          states = inside_limits state_limit (value_of (count_field s)) states.0;
+        }
 
 -- ---- a line of two fields: a state's, or the closing one
 

@@ -1,5 +1,6 @@
 -- `leximin::tournament::gives_up_before` meets its contract: the tests that were made pick the case of the definition; two states with a
 -- seat to spare are at or below their starts, so their last claims can be compared by quotients.
+use native.Mathlib.Omega.{arith}
 use borrow.Author.Tests.{lt-ltb, le-ltb}
 use Rattle.claims.specs.inner.Order.{gives_up_before}
 use Rattle.claims.specs.inner.SizeClaims.{size_test}
@@ -16,8 +17,8 @@ returns-then-b-le1 c = simp (lt-ltb _ _ c.if-a-le1.false, le-ltb _ _ c.if-b-le1.
 
 pub falls_before-requires : goal.falls_before-requires
 falls_before-requires c = (
-  falling_claim c.args.i c.requires.1.0 c.requires.0 c.if-a-le1.false,
-  falling_claim c.args.j c.requires.1.1 c.requires.0 c.if-b-le1.false,
+  falling_claim c.args.i c.requires.1.0 c.requires.0 (omega arith),
+  falling_claim c.args.j c.requires.1.1 c.requires.0 (omega arith),
 )
 
 pub returns : goal.returns

@@ -2,6 +2,7 @@
 use mathlib.Core.Path.{◌≡◌, sym, ap, ◌∙◌}
 use mathlib.Core.List.{List}
 use Prim.Native.Nat.{ℕ}
+use native.Mathlib.Omega.{arith}
 use borrow.Author.Tests.{eq-eqb, ne_eqb}
 use Rattle.fields.specs.Grammar.{field_of, fields_after, value_of}
 use Rattle.lines.specs.Lines.{name_at, number_field, number_at, is_closing_line, closing_refusal}
@@ -69,5 +70,5 @@ returns c =
     simp (
       sym (formed (goal.at.returns c).After-is_pair) ∙ c.if-not-is_pair.false,
       rw (total-is (goal.at.returns c).After-value-total) at (sym c.outside.ensures ∙ c.if-outside.false),
-      rw (total-is (goal.at.returns c).After-value-total) at (eq-eqb _ _ c.if-total-sum.false),
+      rw (total-is (goal.at.returns c).After-value-total) at (eq-eqb c.value-total.result c.args.sum (omega arith)),
     )
