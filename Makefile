@@ -2,13 +2,14 @@
 #
 #   make                             the static and the shared library, target/staticlib/libdesk.a and target/lib/libdesk.so
 #   make shared                      the same; the shared library is made of the static one
+#   make programs                    the programs that read registers by themselves: allotment, clean and work in target/bin
 #   make install PREFIX=/usr/local   header files, libraries, pkg-config file, man pages, Python packages, and the commands
 #   make uninstall PREFIX=/usr/local takes away what install has put there
-#   make check-install               tries an installation in target/install
+#   make check-install               tries an installation in a folder of its own
 #
-# The static library is built by the Rattle kit, which proves every crate below it: some minutes from nothing. It is built again
-# only if a source of these crates is newer. For packages DESTDIR is put before every path; BINDIR, LIBDIR, INCLUDEDIR and MANDIR
-# can be given too.
+# The static library and the programs are built by the Rattle kit, which proves every crate below them: many minutes from nothing.
+# Each is built again only if a source of these crates is newer. For packages DESTDIR is put before every path; BINDIR, LIBDIR,
+# INCLUDEDIR and MANDIR can be given too.
 
 # No rule for other languages is tried on the sources, which takes time.
 MAKEFLAGS += --no-builtin-rules
@@ -30,13 +31,14 @@ MAJOR := $(firstword $(subst ., ,$(VERSION)))
 
 STATIC := target/staticlib/libdesk.a
 SHARED := target/lib/libdesk.so.$(MAJOR)
+PROGRAMS := target/bin/allotment target/bin/clean target/bin/work
 
-# The crates that `desk` stands on, itself among them: in crates.txt a crate stands below those that it names.
-CRATES := $(shell awk -F: '{ name[NR] = $$1; below[NR] = $$2 } \
-    END { wanted["desk"]; for (i = NR; i > 0; i--) if (name[i] in wanted) { \
+# The crates that one stands on, itself among them: in crates.txt a crate stands below those that it names. Its kind may follow a name.
+below = $(shell awk -F: -v top=$(1) '{ split($$1, word, " "); name[NR] = word[1]; below[NR] = $$2 } \
+    END { wanted[top]; for (i = NR; i > 0; i--) if (name[i] in wanted) { \
         print name[i]; n = split(below[i], part, " "); for (j = 1; j <= n; j++) wanted[part[j]] } }' crates.txt)
 # Their files, and the folders too: one that has lost a file is newer than before.
-SOURCES := $(shell find $(wildcard $(foreach part,src specs proofs,$(CRATES:%=crates/%/$(part)))))
+sources = $(shell find $(wildcard $(foreach part,src specs proofs,$(patsubst %,crates/%/$(part),$(call below,$(1))))))
 
 # What is put into the folder of the Python packages, which is all ours.
 OURS = $(LIBDIR)/pinnaclebalm
@@ -46,21 +48,38 @@ PACKAGES = $(shell find python/desk python/office -type f ! -name '*.pyc')
 BRACKET := (
 FUNCTIONS = $(sort $(shell grep -oE 'desk_[a-z_]+[$(BRACKET)]' include/desk.h | tr -d '$(BRACKET)'))
 
-.PHONY: all shared install uninstall check-install
+.PHONY: all shared programs install uninstall check-install
 all: $(STATIC) shared
 shared: $(SHARED) target/lib/libdesk.so
+programs: $(PROGRAMS)
 
-# As old as the start of its building, so that what was changed meanwhile is noticed.
-$(STATIC): $(SOURCES)
-	@command -v $(RT) >/dev/null || { \
-	    echo "$(STATIC) is missing or older than its sources, and the command \`$(RT)\` of the Rattle kit, which proves and builds it, is not here." >&2; \
-	    if [ -e $(STATIC) ]; then echo "To take the library as it is: touch $(STATIC)" >&2; fi; exit 1; }
-	@mkdir -p target && touch target/desk-began
-	$(RT) staticlib desk
-	@touch -r target/desk-began $@
+# Builds what the kit makes of a crate, by a command of the kit in the crate's folder, and puts the file that this leaves in out/ in its
+# place: `rt ci` clears out/, and whoever uses the file meanwhile has the old one or the new one. It is as old as the start of its
+# building, so that what was changed meanwhile is noticed.
+define built
+@command -v $(RT) >/dev/null || { \
+    echo "$@ is missing or older than its sources, and the command \`$(RT)\` of the Rattle kit, which proves and builds it, is not here." >&2; \
+    if [ -e $@ ]; then echo "To take it as it is: touch $@" >&2; fi; exit 1; }
+@mkdir -p $(@D) && touch $@.began
+cd crates/$(1) && $(RT) $(2)
+@cp crates/$(1)/out/$(@F) $@.new && touch -r $@.began $@.new && mv -f $@.new $@ && rm -f $@.began
+endef
 
-# The archive is position independent, and needs memcpy and memset alone. Only the header's functions are exported. The file is put in
-# place whole, so that a program that loads it meanwhile has the old one or the new one.
+$(STATIC): $(call sources,desk)
+	$(call built,desk,lib)
+
+# The kit builds a program only to run it; on no input each of them writes a line and ends with 0.
+define program
+target/bin/$(1): $$(call sources,$(1))
+	$$(call built,$(1),run </dev/null >/dev/null)
+endef
+# The folders are gone through only if a program is asked for.
+ifneq ($(filter programs target/bin/%,$(MAKECMDGOALS)),)
+$(foreach name,$(notdir $(PROGRAMS)),$(eval $(call program,$(name))))
+endif
+
+# The archive is position independent, and needs memcpy, memmove and memset at the most. Only the header's functions are exported. The
+# file is put in place whole, so that a program that loads it meanwhile has the old one or the new one.
 $(SHARED): $(STATIC)
 	@mkdir -p $(@D)
 	@echo '{ global: desk_*; local: *; };' >target/lib/desk.map
@@ -68,8 +87,9 @@ $(SHARED): $(STATIC)
 	    -Wl,-z,now -o $@.new -Wl,--whole-archive $(STATIC) -Wl,--no-whole-archive
 	@mv -f $@.new $@
 
+# No symbolic link: `rt ci` takes none anywhere in the checkout.
 target/lib/libdesk.so: $(SHARED)
-	@ln -sf $(<F) $@.new
+	@cp $< $@.new
 	@mv -f $@.new $@
 
 # Puts a command in place that starts `office` with some first words.

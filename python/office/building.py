@@ -1,4 +1,4 @@
-"""Builds the proved library on first use. Building proves every crate below it, which takes minutes, so it tells how far it is."""
+"""Builds the proved library on first use. Building proves every crate below it, which takes many minutes, so it tells how far it is."""
 
 from __future__ import annotations
 
@@ -13,29 +13,32 @@ from pathlib import Path
 
 ROOT = Path(__file__).parents[2]
 LOG = ROOT / "target" / "office-build.log"
-# What the kit prints of a crate that is proved, now or before.
-_PROVED = re.compile(rb"^rt: ([a-z_]+) proved")
+# What the kit prints when it begins a crate; of one that it has built before it prints nothing.
+_BEGUN = re.compile(rb"^rt: chose .* for ([a-z0-9_]+)$")
 
 
 class CannotBuild(Exception):
     """The library is not there and cannot be built; the message says why."""
 
 
-def crates_below(name: str, listing: str) -> set[str]:
-    """The crates that one stands on, itself among them, by the lines of crates.txt."""
+def crates_below(name: str, listing: str) -> list[str]:
+    """The crates that one stands on, itself the last, in the order in which the kit builds them, by the lines of crates.txt."""
     below = {}
     for line in listing.splitlines():
-        if line and not line.startswith("#"):
-            crate, _, others = line.partition(":")
-            below[crate.strip()] = others.split()
-    found: set[str] = set()
-    waiting = [name]
-    while waiting:
-        crate = waiting.pop()
+        crate, colon, others = line.partition("#")[0].partition(":")
+        if colon:
+            # Its kind may follow the name.
+            below[crate.split()[0]] = others.split()
+    found: list[str] = []
+
+    def visit(crate: str) -> None:
         # The kit's own libraries have no line there.
         if crate in below and crate not in found:
-            found.add(crate)
-            waiting += below[crate]
+            for other in below[crate]:
+                visit(other)
+            found.append(crate)
+
+    visit(name)
     return found
 
 
@@ -65,19 +68,17 @@ def _build() -> None:
     for tool, what in (("rt", "the command of the Rattle kit"), ("cc", "a C compiler")):
         if not shutil.which(tool):
             raise CannotBuild(f"the proved library has to be built first, and `{tool}`, {what}, is not on this machine")
-    count = len(crates_below("desk", (ROOT / "crates.txt").read_text(encoding="utf-8")))
-    _say("The proved library is built once, which takes some five minutes: every crate below it is proved.")
+    crates = crates_below("desk", (ROOT / "crates.txt").read_text(encoding="utf-8"))
+    _say("The proved library is built once, which takes many minutes: every crate below it is proved.")
     began = time.monotonic()
-    proved = 0
     with open(LOG, "wb") as log:
         command = ["make", "-s", "-C", str(ROOT), "shared"]
         with subprocess.Popen(command, stdout=subprocess.PIPE, stderr=subprocess.STDOUT, stdin=subprocess.DEVNULL) as process:
-            _progress(1, count, began)
             for line in process.stdout:
                 log.write(line)
-                if _PROVED.match(line):
-                    proved += 1
-                    _progress(min(proved + 1, count), count, began)
+                begun = _BEGUN.match(line)
+                if begun and begun[1].decode() in crates:
+                    _progress(crates.index(begun[1].decode()) + 1, len(crates), began)
     if sys.stderr.isatty():
         _say("")
     if process.returncode != 0:

@@ -20,7 +20,7 @@ PROGRAM = ROOT / "target" / "bin" / "allotment"
 NO_PROGRAM = f"left out: {PROGRAM} is not built"
 NO_LIBRARY = f"left out: {library_path()} is not built"
 BASH = shutil.which("bash") or "bash"
-TOOLS = "awk bash cat cp date dirname env find head mkdir mktemp readlink rm sed sh sleep tail tee touch wc".split()
+TOOLS = "awk bash cat cp date dirname env find head mkdir mktemp mv readlink rm sed sh sleep tail tee touch".split()
 NO_TOOLS = "left out: this machine lacks " + ", ".join(tool for tool in TOOLS if not shutil.which(tool))
 FIVE = str(EXAMPLES / "five-states.register")
 
@@ -29,19 +29,22 @@ CRATES = """\
 wide:
 text: wide
 spare: wide
-allotment: text io os libc
+for_c staticlib: wide
+allotment: text io
 """
 
-# The kit's command, as far as `allotment` knows it: it says what it proves, and builds the program, which answers with the register itself.
+# The kit's command, as far as `allotment` knows it: it says which crates it proves, builds the program, which answers with the register
+# itself, and runs it.
 KIT = """\
 #!/bin/sh
 echo "$* in $(pwd)" >>"$RT_LOG"
 cat >>"$RT_LOG"
-for crate in wide text allotment; do echo "rt: $crate proved (unchanged since it was last proved)"; done
+for crate in wide text allotment; do echo "rt: chose --jobs 2 for $crate"; echo "fn $crate::it: proved"; done >&2
 [ -z "$RT_MEANWHILE" ] || { sleep 0.05; touch "$RT_MEANWHILE"; }
-[ -n "$RT_BUILDS_NONE" ] || { mkdir -p target/bin && cp stand-in target/bin/allotment; }
-[ -z "$RT_FAILS" ] || { echo "rt: allotment proved, and its run FAILED (0 s)"; exit 1; }
-echo "rt: ok, 3 crates proved"
+[ -n "$RT_BUILDS_NONE" ] || { mkdir -p out && cp ../../stand-in out/allotment; }
+[ -z "$RT_FAILS" ] || { echo "fn allotment::main: not proved" >&2; exit 1; }
+echo "rt: running out/allotment" >&2
+echo refused,1,1
 """
 STAND_IN = """\
 #!/bin/sh
@@ -82,7 +85,7 @@ class Tree(unittest.TestCase):
             (self.root / name).symlink_to(ROOT / name)
         executable(self.root / "stand-in", STAND_IN)
         (self.root / "crates.txt").write_text(CRATES, encoding="ascii")
-        for crate in ("wide", "text", "spare", "allotment"):
+        for crate in ("wide", "text", "spare", "for_c", "allotment"):
             for part in ("src", "must-fail"):
                 (self.root / "crates" / crate / part).mkdir(parents=True)
                 (self.root / "crates" / crate / part / "file").write_text("", encoding="ascii")
@@ -115,7 +118,7 @@ class Tree(unittest.TestCase):
 
     @property
     def builds(self) -> int:
-        return self.log.read_text(encoding="utf-8").count("check allotment in ") if self.log.exists() else 0
+        return self.log.read_text(encoding="utf-8").count("run in ") if self.log.exists() else 0
 
     def holds(self, done: subprocess.CompletedProcess, status: int, output: bytes, *pieces: str) -> None:
         """A run ended with a status, its output is this, and these pieces are on standard error; nothing is there if there are none."""
@@ -130,25 +133,30 @@ class Tree(unittest.TestCase):
 class Building(Tree):
     def test_the_first_run_builds(self) -> None:
         done = self.run_it(FIVE)
-        self.holds(done, 0, example("five-states.register"), "not built yet", "some minutes", "crate 1 of 3\n", "crate 3 of 3\n")
-        self.assertNotIn("crate 4", done.stderr.decode())
-        self.assertEqual(self.log.read_text(encoding="utf-8"), f"check allotment in {self.root}\n")
+        self.holds(done, 0, example("five-states.register"), "not built yet", "many minutes", "crate 1 of 3\n", "crate 3 of 3\n")
+        self.assertEqual(re.findall(r"crate (\d)", done.stderr.decode()), ["1", "2", "3"])
+        self.assertEqual(self.log.read_text(encoding="utf-8"), f"run in {self.root}/crates/allotment\n")
         self.holds(self.run_it(FIVE), 0, example("five-states.register"))
         self.assertEqual(self.builds, 1)
 
     def test_the_kit_leaves_the_register_on_standard_input_alone(self) -> None:
         self.holds(self.run_it(input=b"allotment,x\n"), 0, b"allotment,x\n", "not built yet")
 
-    def test_a_program_that_was_deleted_is_built_though_the_kit_has_a_stamp(self) -> None:
-        stamp = self.root / "target" / "stamp" / "allotment"
-        stamp.parent.mkdir(parents=True)
-        stamp.write_text("", encoding="ascii")
+    def test_a_program_that_was_deleted_is_built_again(self) -> None:
+        self.run_it(FIVE)
+        self.program.unlink()
         self.holds(self.run_it(FIVE), 0, example("five-states.register"), "not built yet")
-        self.assertFalse(stamp.exists())
+        self.assertEqual(self.builds, 2)
+
+    def test_what_the_kit_clears_is_not_needed(self) -> None:
+        self.run_it(FIVE)
+        shutil.rmtree(self.root / "crates/allotment/out")
+        self.holds(self.run_it(FIVE), 0, example("five-states.register"))
+        self.assertEqual(self.builds, 1)
 
     def test_changed_sources_are_noticed_once(self) -> None:
         self.build()
-        for name in ("crates/wide/src/file", "crates/text/src/file", "crates/allotment/src/file", "crates.txt", "crates/text/new/file"):
+        for name in ("crates/wide/src/file", "crates/text/src/file", "crates/allotment/src/file", "crates.txt", "crates/text/specs/file"):
             with self.subTest(name):
                 before = self.builds
                 path = self.root / name
@@ -165,10 +173,11 @@ class Building(Tree):
 
     def test_what_does_not_matter_is_passed_over(self) -> None:
         self.build()
-        for name in ("crates/text/must-fail/file", "crates/spare/src/file", "examples/file-that-is-not-there", "stand-in"):
+        names = ("crates/text/must-fail/file", "crates/spare/src/file", "crates/for_c/src/file", "crates/text/out/file", "stand-in")
+        for name in names:
             path = self.root / name
-            if path.exists():
-                path.touch()
+            path.parent.mkdir(exist_ok=True)
+            path.touch()
         self.holds(self.run_it(FIVE), 0, example("five-states.register"))
         self.assertEqual(self.builds, 0)
 
@@ -180,11 +189,12 @@ class Building(Tree):
 
     def test_a_build_that_fails(self) -> None:
         for _ in range(2):
-            # The second time the program is there, and newer than its sources.
+            # The second time the kit's own file is there, and newer than its sources.
             done = self.run_it(FIVE, variables={"RT_FAILS": "yes"})
-            self.holds(done, 2, b"", "could not be built", "target/allotment-build.log", "its run FAILED")
+            self.holds(done, 2, b"", "could not be built", "target/allotment-build.log", "main: not proved")
         self.assertEqual(self.builds, 2)
-        self.holds(self.run_it(FIVE), 0, example("five-states.register"), "sources have changed")
+        self.assertEqual(list(self.program.parent.iterdir()), [])
+        self.holds(self.run_it(FIVE), 0, example("five-states.register"), "not built yet")
 
     def test_a_build_without_a_program(self) -> None:
         self.holds(self.run_it(FIVE, variables={"RT_BUILDS_NONE": "yes"}), 2, b"", "could not be built")
@@ -203,7 +213,8 @@ class Building(Tree):
 
     def test_nothing_is_written_outside_target(self) -> None:
         def entries() -> set[Path]:
-            return {path for path in self.root.rglob("*") if "target" not in path.relative_to(self.root).parts}
+            """What stands in the tree, but for what the kit makes."""
+            return {path for path in self.root.rglob("*") if not {"target", "out"} & set(path.relative_to(self.root).parts)}
 
         (self.root / "python").unlink()
         shutil.copytree(ROOT / "python", self.root / "python", ignore=shutil.ignore_patterns("__pycache__", "tests"))

@@ -187,9 +187,10 @@ class Building(unittest.TestCase):
 .PHONY: shared
 shared: target/lib/libdesk.so
 target/lib/libdesk.so: source
-\t@echo 'fn a::b: proved'
-\t@echo 'rt: apportionment proved (9 s)'
-\t@echo 'rt: wide proved (unchanged since it was last proved)'
+\t@echo 'rt: chose --jobs 2 for apportionment'
+\t@echo 'fn apportionment::within: proved'
+\t@echo 'rt: chose --jobs 4 for wide'
+\t@echo 'rt: chose --jobs 2 for desk'
 \t@test ! -e broken || { echo 'the fact does not hold'; exit 1; }
 \t@mkdir -p target/lib && touch $@
 """
@@ -200,7 +201,7 @@ target/lib/libdesk.so: source
         self.root = Path(folder.name)
         (self.root / "Makefile").write_text(self.makefile)
         (self.root / "source").write_text("")
-        (self.root / "crates.txt").write_text("# map\napportionment:\nwide:\nother: wide\ndesk: apportionment wide io\n")
+        (self.root / "crates.txt").write_text("# map: names\napportionment:\nwide:\nother: wide\ndesk staticlib: apportionment wide io\n")
         for name, value in (("ROOT", self.root), ("LOG", self.root / "target" / "build.log")):
             patch = mock.patch.object(building, name, value)
             patch.start()
@@ -254,6 +255,8 @@ target/lib/libdesk.so: source
         self.assertIn("claims", below)
         self.assertNotIn("work", below)
         self.assertNotIn("io", below)
+        self.assertLess(below.index("claims"), below.index("placing"))
+        self.assertEqual(below[-1], "desk")
 
 
 if __name__ == "__main__":

@@ -1,5 +1,5 @@
 //! Whole programs: a register in, its listing out. The proved one is `target/bin/allotment` at the
-//! repository's root (`rt check allotment` builds it); the plain one is this program itself, which
+//! repository's root (`make programs` builds it); the plain one is this program itself, which
 //! answers `bench plain` from the reference.
 
 use std::io::{Read, Write};
