@@ -58,7 +58,8 @@ programs: $(PROGRAMS)
 # building, so that what was changed meanwhile is noticed.
 define built
 @command -v $(RT) >/dev/null || { \
-    echo "$@ is missing or older than its sources, and the command \`$(RT)\` of the Rattle kit, which proves and builds it, is not here." >&2; \
+    echo "$@ is missing or older than its sources, and the command \`$(RT)\` of the Rattle kit," \
+        "which proves and builds it, is not here." >&2; \
     if [ -e $@ ]; then echo "To take it as it is: touch $@" >&2; fi; exit 1; }
 @mkdir -p $(@D) && touch $@.began
 cd crates/$(1) && $(RT) $(2)

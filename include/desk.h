@@ -35,12 +35,12 @@ extern "C" {
 
 /* Room for any listing: the longest head, a line for each state at its longest, and the longest
    line of totals. A buffer of so many bytes is never refused 31; the library is proved to that
-   number (crates/listing/specs/inner/Room.antt, listingRoom). */
+   number (crates/listing/specs/inner/Room.antt, listing_room). */
 #define DESK_LISTING_ROOM (31 + DESK_STATES_LIMIT * 67 + 23)
 
 /* Room for any clean copy of a register, likewise: the longest head, a line for each state at its
    longest, and the longest closing line. A buffer of so many bytes is never refused 31; the library is
-   proved to that number (crates/cleaning/specs/inner/Room.antt, cleanRoom). */
+   proved to that number (crates/cleaning/specs/inner/Room.antt, clean_room). */
 #define DESK_CLEAN_ROOM (30 + DESK_STATES_LIMIT * 44 + 17)
 
 /* The stack that each operation takes at most, in bytes, what is handed back by value included: a

@@ -18,7 +18,7 @@ DOCUMENTS = ["README.md", "docs/OFFICE.md", "docs/PROGRAMS.md", "docs/PROGRAMMER
 # Commands that are run elsewhere: what they begin with, and where.
 RUN_ELSEWHERE = {
     "bash .ci/": "the gate, which runs these tests",
-    "make": ".ci/install",
+    "make": ".ci/install, and .ci/runs for the programs",
     "cargo ": ".ci/compare",
 }
 
@@ -77,9 +77,7 @@ class CommandsRun(unittest.TestCase):
                 print(f"{document}: left out, since {tool} is not on this machine: {command}")
                 continue
             with self.subTest(document=document, command=command):
-                # The kit writes below target/ alone, and wants the repository itself around it.
-                where = ROOT if tool == "rt" else self.folder
-                done = subprocess.run(["bash", "-c", command], cwd=where, capture_output=True, stdin=subprocess.DEVNULL)
+                done = subprocess.run(["bash", "-c", command], cwd=self.folder, capture_output=True, stdin=subprocess.DEVNULL)
                 # A refusal is shown by what it says, and ends with 1.
                 refused = done.stdout.startswith(b"refused,") and "stderr" in expected
                 self.assertEqual(done.returncode, int(refused), done.stderr.decode("utf-8", "replace"))
