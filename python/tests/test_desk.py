@@ -182,10 +182,9 @@ class RefusalsHold(unittest.TestCase):
 
     def test_the_numbers_and_names_are_the_definitions(self) -> None:
         text = (ROOT / "crates" / "apportionment" / "specs" / "Refusals.antt").read_text(encoding="utf-8")
-        defined = {int(number): name for name, number in re.findall(r"^([a-zA-Z]+) = (\d+)$", text, re.MULTILINE) if number != "0"}
+        defined = {int(number): name.upper() for name, number in re.findall(r"^([a-z_]+) = (\d+)$", text, re.MULTILINE) if number != "0"}
         self.assertGreaterEqual(len(defined), 17)
-        capitals = {number: re.sub(r"([A-Z])", r"_\1", name).upper() for number, name in defined.items()}
-        self.assertEqual({number: refusal.name for number, refusal in desk.REFUSALS.items()}, capitals)
+        self.assertEqual({number: refusal.name for number, refusal in desk.REFUSALS.items()}, defined)
 
     def test_each_has_its_own_words(self) -> None:
         words = [refusal.wrong for refusal in desk.REFUSALS.values()]
