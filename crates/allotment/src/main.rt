@@ -3,16 +3,16 @@
 // part is not listed: it would look like one that was cut short.
 #![tactic(auto)]
 
-fn print_listing(register: &[u8]) {
+fn print_listing(rt: &(impl Print + Eprint), register: &[u8]) {
     let mut page = [0u8; listing::LISTING_ROOM];
     let size = listing::print(register, &mut page);
-    streams::print(&page[..size]);
+    streams::print(rt, &page[..size]);
 }
 
-fn main() {
+fn main(rt: HostRuntime) {
     let mut register = [0u8; streams::REGISTER_ROOM];
-    let input = streams::read_register(b"usage: allotment [REGISTER]\n", &mut register);
+    let input = streams::read_register(&rt, "usage: allotment [REGISTER]\n", &mut register);
     if input.whole {
-        print_listing(&register[..input.length]);
+        print_listing(&rt, &register[..input.length]);
     }
 }

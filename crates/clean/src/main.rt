@@ -3,16 +3,16 @@
 // part is not copied: its copy would look like that of one that was cut short.
 #![tactic(auto)]
 
-fn print_clean(register: &[u8]) {
+fn print_clean(rt: &(impl Print + Eprint), register: &[u8]) {
     let mut page = [0u8; cleaning::CLEAN_ROOM];
     let size = cleaning::print(register, &mut page);
-    streams::print(&page[..size]);
+    streams::print(rt, &page[..size]);
 }
 
-fn main() {
+fn main(rt: HostRuntime) {
     let mut register = [0u8; streams::REGISTER_ROOM];
-    let input = streams::read_register(b"usage: clean [REGISTER]\n", &mut register);
+    let input = streams::read_register(&rt, "usage: clean [REGISTER]\n", &mut register);
     if input.whole {
-        print_clean(&register[..input.length]);
+        print_clean(&rt, &register[..input.length]);
     }
 }

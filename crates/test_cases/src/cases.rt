@@ -1,8 +1,8 @@
 // A case is a line: the operation, what the case is, its arguments, `=` and the expected answer.
+use crate::output::say;
 use crate::parts::{BAR, after, before, front};
 use crate::{operations, signs};
 use fields::parts::place_of;
-use libc::STDOUT_FILENO;
 
 const LF: u8 = 10;
 
@@ -10,11 +10,11 @@ const LF: u8 = 10;
 const LINE_ROOM: usize = 70_000;
 
 // Runs the case of each line, and counts them.
-pub fn run_all(lines: &[u8]) -> u64 {
-    let mut count = 0;
+pub fn run_all(rt: &impl Print, lines: &[u8]) -> u64 {
+    let mut count = 0u64;
     let mut t = lines;
     while 0 < t.len() {
-        count = std::num::wrapping_add_u64(count, run(before(t, LF)));
+        count = count.wrapping_add(run(rt, before(rt, t, LF)));
         let u = after(t, LF);
         t = u;
     }
@@ -22,30 +22,35 @@ pub fn run_all(lines: &[u8]) -> u64 {
 }
 
 // Runs the case of a line; how many cases it has, which is none where the line is empty or starts with `#`.
-fn run(case: &[u8]) -> u64 {
-    io::write_all(STDOUT_FILENO, case);
+fn run(rt: &impl Print, case: &[u8]) -> u64 {
+    say(rt, case);
     if place_of(case, b'#') == 0 {
-        io::write_all(STDOUT_FILENO, b"\n");
+        say(rt, b"\n");
         return 0;
     }
     let mut page = [0u8; LINE_ROOM];
-    let size = signs::put_line(&mut page, case);
-    run_case(front(&page, size));
+    let size = signs::put_line(rt, &mut page, case);
+    run_case(rt, front(rt, &page, size));
     1
 }
 
-fn run_case(case: &[u8]) {
+fn run_case(rt: &impl Print, case: &[u8]) {
     let question = after(after(case, BAR), BAR);
     let expected = after(question, b'=');
-    let told = operations::answer(before(case, BAR), before(question, b'='), expected);
-    write_verdict(told == expected.len());
+    let told = operations::answer(
+        rt,
+        before(rt, case, BAR),
+        before(rt, question, b'='),
+        expected,
+    );
+    write_verdict(rt, told == expected.len());
 }
 
 // What was told is all that is expected, or it is not.
-fn write_verdict(agrees: bool) {
+fn write_verdict(rt: &impl Print, agrees: bool) {
     if agrees {
-        io::write_all(STDOUT_FILENO, b": as expected\n");
+        say(rt, b": as expected\n");
     } else {
-        io::write_all(STDOUT_FILENO, b": DIFFERS\n");
+        say(rt, b": DIFFERS\n");
     }
 }

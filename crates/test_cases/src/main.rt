@@ -7,27 +7,46 @@ mod answers;
 mod cases;
 mod numbers;
 mod operations;
+mod output;
 mod parts;
 mod signs;
 
-use libc::{STDIN_FILENO, STDOUT_FILENO};
+ghost use Rattle.std.specs.Counts.{IsPrefixLen};
 
-// Room for the file of cases: that of `io::large_buffer`.
+use output::say;
+use std::io::Read;
+
+// Room for the file of cases.
 const INPUT_ROOM: usize = 65_536;
 
-fn main() {
-    let mut input = io::large_buffer();
-    let length = io::read_full(STDIN_FILENO, &mut input);
-    let count = cases::run_all(&input[..length]);
-    io::print_decimal(STDOUT_FILENO, count);
-    write_end(length);
+fn main(rt: HostRuntime) {
+    let mut input = [0u8; INPUT_ROOM];
+    let length = read_full(&mut rt.reader(), &mut input);
+    let count = cases::run_all(&rt, &input[..length]);
+    let _ = rt.print(count);
+    write_end(&rt, length);
+}
+
+// Reads until the buffer is full, the input ends or a read fails.
+fn read_full(input: &mut impl Read, bytes: &mut [u8]) -> usize
+    ensures { IsPrefixLen result bytes.new }
+{
+    let mut length = 0;
+    while length < bytes.len() {
+        match input.read(&mut bytes[length..]) {
+            Ok(0) => return length,
+            Ok(more) => length += more,
+            Err(_) => return length,
+        }
+    }
+    length
 }
 
 // The last words; of input that fills all the room there may be more.
-fn write_end(length: usize) {
+fn write_end(rt: &impl Print, length: usize) {
     if length == INPUT_ROOM {
-        io::write_all(STDOUT_FILENO, b" cases, AND THERE MAY BE MORE\n");
+        say(rt, b" cases, AND THERE MAY BE MORE\n");
     } else {
-        io::write_all(STDOUT_FILENO, b" cases\n");
+        say(rt, b" cases\n");
     }
 }

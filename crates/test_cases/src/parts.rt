@@ -1,23 +1,23 @@
 // Parts of a line.
 ghost use Rattle.std.specs.Prelude.{◌-◌, ◌≤◌, length};
 
+use crate::output::say;
 use fields::parts::{place_of, upto};
-use libc::STDOUT_FILENO;
 
 pub const BAR: u8 = 124;
 
 // What stands before a place. Where there is no room for so much, that is told, and so the output differs.
-pub fn front(s: &[u8], size: usize) -> &[u8] {
+pub fn front<'a>(rt: &impl Print, s: &'a [u8], size: usize) -> &'a [u8] {
     if size <= s.len() {
         return upto(s, size);
     }
-    io::write_all(STDOUT_FILENO, b": THIS IS TOO LONG");
+    say(rt, b": THIS IS TOO LONG");
     s
 }
 
 // What stands before the first byte `b`, or all where there is none.
-pub fn before(s: &[u8], b: u8) -> &[u8] {
-    front(s, place_of(s, b))
+pub fn before<'a>(rt: &impl Print, s: &'a [u8], b: u8) -> &'a [u8] {
+    front(rt, s, place_of(s, b))
 }
 
 // What stands after the first byte `b`, or nothing where there is none.
@@ -44,6 +44,6 @@ pub fn after_bars(s: &[u8], k: usize) -> &[u8] {
 }
 
 // The part after the first `k` bars, up to the next one.
-pub fn field(s: &[u8], k: usize) -> &[u8] {
-    before(after_bars(s, k), BAR)
+pub fn field<'a>(rt: &impl Print, s: &'a [u8], k: usize) -> &'a [u8] {
+    before(rt, after_bars(s, k), BAR)
 }

@@ -5,13 +5,13 @@ use crate::parts::{after, before};
 use fields::parts::place_of;
 
 // A line whose signs are replaced by what they stand for.
-pub fn put_line(out: &mut [u8], line: &[u8]) -> usize {
+pub fn put_line(rt: &impl Print, out: &mut [u8], line: &[u8]) -> usize {
     let mut next = 0;
     let mut t = line;
     while 0 < t.len() {
-        next = put_bytes(out, next, before(t, b'{'));
+        next = put_bytes(out, next, before(rt, t, b'{'));
         let group = after(t, b'{');
-        next = put_group(out, next, before(group, b'}'));
+        next = put_group(rt, out, next, before(rt, group, b'}'));
         let u = after(group, b'}');
         t = u;
     }
@@ -19,26 +19,32 @@ pub fn put_line(out: &mut [u8], line: &[u8]) -> usize {
 }
 
 // A text so many times; nothing where there is none.
-fn put_group(out: &mut [u8], at: usize, group: &[u8]) -> usize {
+fn put_group(rt: &impl Print, out: &mut [u8], at: usize, group: &[u8]) -> usize {
     if group.len() == 0 {
         return at;
     }
-    put_times(out, at, after(group, b':'), number(before(group, b':')))
+    put_times(
+        rt,
+        out,
+        at,
+        after(group, b':'),
+        number(rt, before(rt, group, b':')),
+    )
 }
 
-fn put_times(out: &mut [u8], at: usize, part: &[u8], times: u64) -> usize {
+fn put_times(rt: &impl Print, out: &mut [u8], at: usize, part: &[u8], times: u64) -> usize {
     let mut next = at;
     let mut k = 0;
     while k < times {
         k += 1;
-        next = put_numbered(out, next, part, k);
+        next = put_numbered(rt, out, next, part, k);
     }
     next
 }
 
 // A text with a number for its `@`, if it has one.
-fn put_numbered(out: &mut [u8], at: usize, part: &[u8], number: u64) -> usize {
-    let next = put_bytes(out, at, before(part, b'@'));
+fn put_numbered(rt: &impl Print, out: &mut [u8], at: usize, part: &[u8], number: u64) -> usize {
+    let next = put_bytes(out, at, before(rt, part, b'@'));
     if place_of(part, b'@') == part.len() {
         return next;
     }

@@ -13,6 +13,7 @@ use apportionment::refusals::ACCEPTED;
 use placing::Placing;
 use register::rows;
 use showing::PAGE_ROOM;
+use std::rt::{Env, Files};
 
 // Room for the line of a refusal.
 const REFUSAL_ROOM: usize = 64;
@@ -25,39 +26,45 @@ struct Walked {
 }
 
 // Each of these prints a block and says whether it was taken; after one that was not, nothing more is printed.
-fn print_refusal(number: u64, line: u64) -> bool {
+fn print_refusal(rt: &(impl Print + Eprint), number: u64, line: u64) -> bool {
     let mut page = [0u8; REFUSAL_ROOM];
     let size = text::put_refusal(&mut page[..], 0, number, line);
-    streams::print(&page[..size])
+    streams::print(rt, &page[..size])
 }
 
-fn print_start(rows: &[u8], placing: Placing, sum: u64) -> bool
+fn print_start(rt: &(impl Print + Eprint), rows: &[u8], placing: Placing, sum: u64) -> bool
     requires { Showable rows.now placing sum }
 {
     let mut page = [0u8; PAGE_ROOM];
     let size = showing::put_start(&mut page[..], rows, placing, sum);
-    streams::print(&page[..size])
+    streams::print(rt, &page[..size])
 }
 
-fn print_move(rows: &[u8], before: Placing, after: Placing, sum: u64) -> bool
+fn print_move(
+    rt: &(impl Print + Eprint),
+    rows: &[u8],
+    before: Placing,
+    after: Placing,
+    sum: u64,
+) -> bool
     requires { ShowableStep rows.now before after sum }
 {
     let mut page = [0u8; PAGE_ROOM];
     let size = showing::put_move(&mut page[..], rows, before, after, sum);
-    streams::print(&page[..size])
+    streams::print(rt, &page[..size])
 }
 
-fn print_end(rows: &[u8], placing: Placing, sum: u64) -> bool
+fn print_end(rt: &(impl Print + Eprint), rows: &[u8], placing: Placing, sum: u64) -> bool
     requires { Showable rows.now placing sum }
 {
     let mut page = [0u8; PAGE_ROOM];
     let size = showing::put_end(&mut page[..], rows, placing, sum);
-    streams::print(&page[..size])
+    streams::print(rt, &page[..size])
 }
 
 // Moves by one seat until none is moved, as at the house, and prints each step. From the start the house is fewer steps away than there are
 // states, so that the turns never run out.
-fn print_steps(rows: &[u8], start: Placing, sum: u64) -> Walked
+fn print_steps(rt: &(impl Print + Eprint), rows: &[u8], start: Placing, sum: u64) -> Walked
     requires { Begun rows.now start sum }
     ensures { result.written ≡ true → result.placing ≡ on_the_way start (way_of start) }
 {
@@ -73,7 +80,7 @@ fn print_steps(rows: &[u8], start: Placing, sum: u64) -> Walked
             };
         }
         let next = on.placing;
-        if print_move(rows, placing, next, sum) {
+        if print_move(rt, rows, placing, next, sum) {
             placing = next;
             made += 1;
         } else {
@@ -90,63 +97,60 @@ fn print_steps(rows: &[u8], start: Placing, sum: u64) -> Walked
 }
 
 // Shows the work from the start on.
-fn show_way(rows: &[u8], start: Placing, sum: u64) -> bool
+fn show_way(rt: &(impl Print + Eprint), rows: &[u8], start: Placing, sum: u64) -> bool
     requires { Begun rows.now start sum }
 {
-    if print_start(rows, start, sum) {
-        let walked = print_steps(rows, start, sum);
+    if print_start(rt, rows, start, sum) {
+        let walked = print_steps(rt, rows, start, sum);
         if walked.written {
-            return print_end(rows, walked.placing, sum);
+            return print_end(rt, rows, walked.placing, sum);
         }
     }
     false
 }
 
 // Shows the work of a register.
-fn show(register: &[u8]) -> bool {
+fn show(rt: &(impl Print + Eprint), register: &[u8]) -> bool {
     let reading = register::read(register);
     if reading.refusal != ACCEPTED {
-        return print_refusal(reading.refusal, reading.line);
+        return print_refusal(rt, reading.refusal, reading.line);
     }
     let n = reading.states;
     let populations = reading.populations;
     let opened = Placing::open(&populations[..n], reading.house);
     if opened.refusal != ACCEPTED {
-        return print_refusal(opened.refusal, 0);
+        return print_refusal(rt, opened.refusal, 0);
     }
-    show_way(rows::of(register), opened.placing, reading.total)
+    show_way(rt, rows::of(register), opened.placing, reading.total)
 }
 
-fn show_standard_input() {
+fn show_standard_input(rt: &(impl Input + Print + Eprint)) {
     let mut register = [0u8; streams::REGISTER_ROOM];
-    let input = streams::read_standard_input(&mut register);
+    let input = streams::read_standard_input(rt, &mut register);
     if input.whole {
-        show(&register[..input.length]);
+        show(rt, &register[..input.length]);
     }
 }
 
 // Shows the work of the register in the file that an argument names. A file that could not be read was told, and printing goes on with the
 // next one.
-fn show_file(argument: usize) -> bool {
+fn show_file(rt: &(impl Env + Files + Print + Eprint), argument: usize) -> bool {
     let mut register = [0u8; streams::REGISTER_ROOM];
-    let input = streams::read_argument(argument, &mut register);
+    let input = streams::read_argument(rt, argument, &mut register);
     if input.whole {
-        return show(&register[..input.length]);
+        return show(rt, &register[..input.length]);
     }
     true
 }
 
-fn main() {
-    let count = os::arg_count();
+fn main(rt: HostRuntime) {
+    let count = streams::argument_count(&rt);
     if count < 2 {
-        show_standard_input();
+        show_standard_input(&rt);
         return;
     }
-    let mut k = 1;
-    while k < count {
-        if show_file(k) {
-            k += 1;
-        } else {
+    for k in 1..count {
+        if !show_file(&rt, k) {
             return;
         }
     }
