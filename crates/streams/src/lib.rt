@@ -2,7 +2,8 @@
 #![tactic(auto)]
 
 ghost use Rattle.std.specs.Counts.{IsPrefixLen};
-ghost use Rattle.std.specs.Prelude.{◌≡◌};
+ghost use Rattle.std.specs.Io.KnownBytes.{Consumes, IsAtEnd};
+ghost use Rattle.std.specs.Prelude.{◌≡◌, ◌<◌, length, take, IsTrue};
 
 use apportionment::REGISTER_LIMIT;
 use std::env::FillError;
@@ -60,9 +61,12 @@ fn unread(rt: &impl Eprint, source: &str, reason: &str) -> Input
 }
 
 // Reads what a reader gives, in however many pieces it comes, until the buffer is full or the input ends. The system's own answer tells
-// a read that failed from the end of the input, and what was read before it failed is not taken for the whole.
-fn read_from(rt: &impl Eprint, source: &str, reader: &mut impl Read, bytes: &mut [u8]) -> Input
-    ensures { IsPrefixLen result.length bytes.new }
+// a read that failed from the end of the input, and what was read before it failed is not taken for the whole. Where it is known what a
+// reader has left, that is what was read, and the whole of it unless the buffer is full.
+fn read_from<R: Read>(rt: &impl Eprint, source: &str, reader: &mut R, bytes: &mut [u8]) -> Input
+    ensures within { IsPrefixLen result.length bytes.new }
+    ensures taken { Consumes (R.remaining reader.old) (R.remaining reader.new) (take result.length bytes.new) }
+    ensures whole { IsTrue result.whole → result.length < length bytes.new → IsAtEnd (R.remaining reader.new) }
 {
     let mut length = 0;
     while length < bytes.len() {
