@@ -146,8 +146,10 @@ pub record Exceptions : Type 0 where
 
 -- They hold under the definitions themselves: antt goes through the allotments.
 pub exceptions : Exceptions
-unfolding allot_refusal first_refusal problem_checks states_outside house_outside has_zero sum_outside list_misfits seats_too_few outside within
-    seats_of sum less at_most distance size_of sizes_of insert largest_first list_less more_at_first size_list chosen_before with_first allotments
+unfolding allot_refusal first_refusal problem_checks states_outside house_outside has_zero sum_outside list_misfits seats_too_few outside
+    within
+    seats_of sum less at_most distance size_of sizes_of insert largest_first list_less more_at_first size_list chosen_before with_first
+    allotments
     first_of first_of_all leximin_for first_place count_below list_of whole_part remainder served_before seats_left rank remainder_seats_at
     remainder_seats one_more among able quotient quotient_before seat_goes_to quota_seats factor grew_at_least_as loses_to
 exceptions = record {

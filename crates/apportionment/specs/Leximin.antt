@@ -53,7 +53,8 @@ first_of_all before (x ∷ xs) = first_of before x xs
 unfoldable pub leximin_for : (ps : List ℕ) (H total : ℕ) → List ℕ  -- Of all with this total, the one chosen first; no seats if none has it.
 leximin_for ps H total = first_of_all (chosen_before ps H) (allotments (length ps) total)
 
-unfoldable pub nearest_up_to : (p P H k : ℕ) → ℕ  -- Of 1 to k seats (1 at least), those with the least size; of equally near ones, the fewer.
+-- Of 1 to k seats (1 at least), those with the least size; of equally near ones, the fewer.
+unfoldable pub nearest_up_to : (p P H k : ℕ) → ℕ
 nearest_up_to p P H zero = 1
 nearest_up_to p P H (suc k) =
     let best = nearest_up_to p P H k in

@@ -77,7 +77,8 @@ clean_twice s good = agree_equal (clean_agrees s good)
         }
 
 -- Two accepted registers have equal clean forms exactly when they agree.
-pub clean_equal : (s t : List ℕ) → IsAccepted s → IsAccepted t → (clean_of s ≡ clean_of t → Agree s t) × (Agree s t → clean_of s ≡ clean_of t)
+pub clean_equal : (s t : List ℕ) → IsAccepted s → IsAccepted t → (clean_of s ≡ clean_of t → Agree s t)
+    × (Agree s t → clean_of s ≡ clean_of t)
 clean_equal s t good fine = (agree, agree_equal)
   where
     agree : clean_of s ≡ clean_of t → Agree s t

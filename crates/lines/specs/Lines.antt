@@ -4,7 +4,8 @@ use Rattle.apportionment.specs.Refusals.{accepted, line_ill_formed, number_out_o
 use Rattle.apportionment.specs.Refusals.{total_differs, outside, first_refusal}
 use Rattle.apportionment.specs.Limits.{state_limit, house_limit, sum_limit}
 use Rattle.apportionment.specs.{Lists.same_list, Text.bytes_of, declared.Method.Method, declared.Method.TheVariants.Leximin}
-use Rattle.fields.specs.Grammar.{ended, line_of, rest_of, field_of, fields_after, is_number, value_of, is_name, is_method_field, method_named}
+use Rattle.fields.specs.Grammar.{ended, line_of, rest_of, field_of, fields_after, is_number, value_of, is_name, is_method_field}
+use Rattle.fields.specs.Grammar.{method_named}
 use Rattle.fields.specs.{declared.Named.Named, declared.Named.TheVariants.Known, declared.Named.TheVariants.Unknown}
 use Rattle.lines.specs.declared.head.Head.{Head}
 

@@ -10,7 +10,14 @@ padded xs = xs ++ replicate (state_limit - length xs) 0
 
 unfoldable pub started : (ps : List ℕ) (H : ℕ) → Placing  -- The placing that opening gives: each state's nearest seats, and no step made.
 started ps H =
-    record { states = length ps; populations = padded ps; house = H; seats = padded (start_seats ps H); total = start_total ps H; steps = 0 }
+    record {
+      states = length ps;
+      populations = padded ps;
+      house = H;
+      seats = padded (start_seats ps H);
+      total = start_total ps H;
+      steps = 0;
+    }
 
 unfoldable pub placing_at : (ps : List ℕ) (H m : ℕ) → Placing  -- The placing m steps later: leximin's for the total that they lead to.
 placing_at ps H m =

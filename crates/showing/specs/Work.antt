@@ -20,7 +20,8 @@ state_lines word rows ps seats P H (suc k) =
 unfoldable pub moved_text : (name : List ℕ) (p a b P H : ℕ) → List ℕ  -- A state with a seats and with b: name, seats, departures.
 moved_text name p a b P H = name ++ numbers_text a b ++ bytes_of "," ++ departure_text p a P H ++ bytes_of "," ++ departure_text p b P H
 
-unfoldable pub seats_if_moved : (adds : Bool) (a : ℕ) → ℕ  -- The seats of a state if it is the one that moves, by a seat added or withdrawn.
+-- The seats of a state if it is the one that moves, by a seat added or withdrawn.
+unfoldable pub seats_if_moved : (adds : Bool) (a : ℕ) → ℕ
 seats_if_moved adds a = cond adds (a + 1) (a - 1)
 
 unfoldable pub weighed_line : (step : ℕ) (name : List ℕ) (p a b P H : ℕ) → List ℕ  -- A state weighed with a seats and with b.

@@ -1,7 +1,9 @@
 -- Laws of what Lists.antt defines, which proofs cite.
 -- Assumes nothing.
-use Rattle.std.specs.Prelude.{◌≡◌, refl, Bool, true, false, cond, List, [], ◌∷◌, map, ℕ, zero, suc, ◌+◌, ◌*◌, ◌≤◌, ◌<◌, leb, eqb, length, get_or, take, drop, replicate}
-use Rattle.std.proofs.Common.{ap, sym, ◌∙◌, arith, add-mul, suc-mul, zero-mul, mul-zero, mul-one, add-one, drop_of_length-le, drop-cons, ext_get_or, eq-eqb, ne_eqb, eqb-true, leb-true, leb-false}
+use Rattle.std.specs.Prelude.{◌≡◌, refl, Bool, true, false, cond, List, [], ◌∷◌, map, ℕ, zero, suc, ◌+◌, ◌*◌, ◌≤◌, ◌<◌, leb, eqb, length}
+use Rattle.std.specs.Prelude.{get_or, take, drop, replicate}
+use Rattle.std.proofs.Common.{ap, sym, ◌∙◌, arith, add-mul, suc-mul, zero-mul, mul-zero, mul-one, add-one, drop_of_length-le, drop-cons}
+use Rattle.std.proofs.Common.{ext_get_or, eq-eqb, ne_eqb, eqb-true, leb-true, leb-false}
 use Rattle.std.proofs.lemmas.Bool.{false≢true, eqb-false}
 use Rattle.std.proofs.lemmas.List.{length-map}
 use Rattle.apportionment.specs.Lists.{sum, same_list, count_below, list_of}

@@ -1,7 +1,8 @@
 -- Laws of what Methods.antt defines, which proofs cite: a method's number leads back to it, so what a test finds at each entry of the
 -- list of methods holds of every method; and the table in which the code keeps the words says each method's word.
 -- Assumes nothing.
-use Rattle.std.specs.Prelude.{◌≡◌, refl, Bool, true, false, cond, List, [], ◌∷◌, ℕ, zero, suc, ◌+◌, ◌-◌, ◌≤◌, ◌<◌, leb, length, get_or, take, drop}
+use Rattle.std.specs.Prelude.{◌≡◌, refl, Bool, true, false, cond, List, [], ◌∷◌, ℕ, zero, suc, ◌+◌, ◌-◌, ◌≤◌, ◌<◌, leb, length, get_or}
+use Rattle.std.specs.Prelude.{take, drop}
 use Rattle.std.proofs.lemmas.Bool.{false≢true}
 use Rattle.std.proofs.Common.{add-one, arith, leb-true, drop-cons}
 use Rattle.apportionment.specs.Lists.{same_list}

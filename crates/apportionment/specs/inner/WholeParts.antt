@@ -37,7 +37,8 @@ module _ {ps : List ℕ} {P H : ℕ} (ok : Problem ps P H) where
   whole_parts_within k =
       le_of_mul-le-mul_right
       (le_trans
-      (sum-list_of_scaled (whole_part ps H) (λ (i : ℕ). get_or ps i 0) (sum ps) H (λ (i : ℕ). div-mul-le_self (get_or ps i 0 * H) (sum ps)) k)
+      (sum-list_of_scaled (whole_part ps H) (λ (i : ℕ). get_or ps i 0) (sum ps) H
+      (λ (i : ℕ). div-mul-le_self (get_or ps i 0 * H) (sum ps)) k)
       (rw (mul_comm H (sum ps)) (mul-le-mul_right H (sum-list_of_places ps k))))
       someone
 

@@ -50,7 +50,8 @@ module _ {d : ℕ → Fraction} {n : ℕ} {w : ℕ → ℕ} (inc : Increasing d)
   -- Seats that stand are the claims met, as many as there are seats.
   pub standing_is_claims_met : (xs : List ℕ) → Standing n (λ _. 0) (divisor_test d w) xs → xs ≡ claims_met d w n (sum xs)
   standing_is_claims_met xs s =
-      standing_unique n (λ _. 0) (divisor_test d w) (divisor_order inc weighs) xs (claims_met d w n (sum xs)) s (claims_met_standing (sum xs))
+      standing_unique n (λ _. 0) (divisor_test d w) (divisor_order inc weighs) xs (claims_met d w n (sum xs)) s
+      (claims_met_standing (sum xs))
       (sym (claims_met_sum (sum xs)))
 
 -- ---- a method's seats

@@ -2,7 +2,8 @@
 -- fractions with denominators above 0 follow from one another.
 -- Assumes nothing.
 use Rattle.std.specs.Prelude.{◌≡◌, true, false, ◌*◌, ◌<◌, ◌≤◌}
-use Rattle.std.proofs.Common.{le_of_lt, le_refl, mul-le-mul_right, mul-lt-mul_of_pos_right, le_of_mul-le-mul_right, lt_of_mul-lt-mul_right, arith, ltb-true, ltb-false, lt-ltb, le-ltb, leb-true}
+use Rattle.std.proofs.Common.{le_of_lt, le_refl, mul-le-mul_right, mul-lt-mul_of_pos_right, le_of_mul-le-mul_right, lt_of_mul-lt-mul_right}
+use Rattle.std.proofs.Common.{arith, ltb-true, ltb-false, lt-ltb, le-ltb, leb-true}
 use Rattle.apportionment.specs.Quantities.{Fraction, less, at_most}
 
 -- ---- a test and the products

@@ -38,7 +38,8 @@ module _ {ps : List ℕ} {H : ℕ} (s : Positive ps H) where
   placed_to total below =
       let lacking : ℕ = total - start_total ps H in (
         placed_times (size_test ps H) (length ps) (start_seats ps H) lacking,
-        placed_times_standing (length ps) one_each (size_test ps H) (size_order s) (start_seats ps H) lacking s.some_state (start_standing s),
+        placed_times_standing (length ps) one_each (size_test ps H) (size_order s) (start_seats ps H) lacking s.some_state
+            (start_standing s),
         omega (arith, sum-placed_times (length ps) (size_test ps H) (start_seats ps H) lacking s.some_state (start_standing s).states),
       )
 

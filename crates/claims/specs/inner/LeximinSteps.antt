@@ -82,7 +82,8 @@ module _ {ps : List ℕ} {H : ℕ} (s : Positive ps H) (fits : length ps ≤ H) 
 
   -- Seats whose ends are apart are the leximin allotment for their total.
   pub ends_apart_leximin : (m : ℕ) (xs : List ℕ) → length xs ≡ length ps → ((i : ℕ) → i < length ps → 1 ≤ get_or xs i 0)
-      → sum xs ≡ total_after ps H m → ends_apart one_each (size_test ps H) (length ps) xs ≡ true → xs ≡ leximin_for ps H (total_after ps H m)
+      → sum xs ≡ total_after ps H m → ends_apart one_each (size_test ps H) (length ps) xs ≡ true → xs
+      ≡ leximin_for ps H (total_after ps H m)
   ends_apart_leximin m xs states least total e =
       rw (← total)
       (sym (standing_leximin s (ends_standing (length ps) one_each (size_test ps H) (size_order s) xs states s.some_state least e)))

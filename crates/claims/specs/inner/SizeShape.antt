@@ -2,7 +2,8 @@
 -- the one before it or the one after it. All that is said of leximin's claims and of the nearest seats rests on these.
 -- Assumes nothing.
 use Rattle.std.specs.Prelude.{◌≡◌, true, ◌⊎◌, ℕ, suc, ◌+◌, ◌*◌, ◌<◌, ◌≤◌}
-use Rattle.std.proofs.Common.{inl, inr, ⊎_elim, mul-pos, mul-le-mul_right, mul-lt-mul_of_pos_right, lt-suc_self, le_of_lt, lt_of_not-le, arith}
+use Rattle.std.proofs.Common.{inl, inr, ⊎_elim, mul-pos, mul-le-mul_right, mul-lt-mul_of_pos_right, lt-suc_self, le_of_lt, lt_of_not-le}
+use Rattle.std.proofs.Common.{arith}
 use Rattle.std.proofs.Math.Nat.{mul-lt-mul_of_pos_left}
 use Rattle.std.proofs.Math.Decide.{dec_le}
 use Rattle.apportionment.specs.Quantities.{less, distance, size_of}

@@ -2,7 +2,8 @@
 -- states' claims are equal in it. `Standing` cites these facts.
 -- Assumes nothing.
 use Rattle.std.specs.Prelude.{◌≡◌, refl, ◌⊎◌, Bool, true, false, cond, ℕ, zero, suc, ◌<◌, ◌≤◌, ltb}
-use Rattle.std.proofs.Common.{sym, ◌∙◌, subst, inl, inr, ⊎_elim, le_refl, le_trans, le_of_lt, le_of_suc-le-suc, not-suc-le-zero, eq-or-lt_of_le, lt_irrefl, arith, ltb-true, ltb-false, lt-ltb, le-ltb}
+use Rattle.std.proofs.Common.{sym, ◌∙◌, subst, inl, inr, ⊎_elim, le_refl, le_trans, le_of_lt, le_of_suc-le-suc, not-suc-le-zero}
+use Rattle.std.proofs.Common.{eq-or-lt_of_le, lt_irrefl, arith, ltb-true, ltb-false, lt-ltb, le-ltb}
 use Rattle.std.proofs.lemmas.Bool.{false≢true}
 use Rattle.std.proofs.Math.Nat.{le_step}
 use Rattle.apportionment.specs.Lists.{first_place}

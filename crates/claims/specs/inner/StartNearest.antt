@@ -5,7 +5,8 @@ use Rattle.std.specs.Prelude.{◌≡◌, Bool, true, false, cond, ◌⊎◌, eqb
 use Rattle.std.proofs.lemmas.Bool.{false≢true, eqb-false}
 use Rattle.std.proofs.Math.Logic.{⊎_elim}
 use Prim.Native.Nat.{ℕ, zero, suc, ◌+◌, ◌*◌, ◌/◌, ◌<◌, ◌≤◌, suc-le-suc, zero-le}
-use Rattle.std.proofs.Common.{mul-pos, mul-le-mul_right, lt_of_mul-lt-mul_right, lt-suc_self, le_antisymm, le_of_suc-le-suc, not-suc-le-zero, pos_of_ne-zero, div-mul-le_self, eq-or-lt_of_le, add-one, eqb-true}
+use Rattle.std.proofs.Common.{mul-pos, mul-le-mul_right, lt_of_mul-lt-mul_right, lt-suc_self, le_antisymm, le_of_suc-le-suc}
+use Rattle.std.proofs.Common.{not-suc-le-zero, pos_of_ne-zero, div-mul-le_self, eq-or-lt_of_le, add-one, eqb-true}
 use Rattle.std.proofs.Math.Nat.{le_refl, lt-div-mul-add}
 use native.Mathlib.Omega.{arith, by_contra}
 use Rattle.apportionment.specs.inner.Tests.{cond_both}

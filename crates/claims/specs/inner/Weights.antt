@@ -2,11 +2,13 @@
 -- another weighs many times less; no weight is ever computed.
 -- Assumes nothing.
 use Rattle.std.specs.Prelude.{◌≡◌, refl, cond, ℕ, zero, suc, ◌+◌, ◌*◌, ◌/◌, ◌^◌, ◌<◌, ◌≤◌, ltb, length}
-use Rattle.std.proofs.Common.{sym, ◌∙◌, ap, ⊎_elim, mul_assoc, mul_comm, mul_left_comm, mul-pos, mul-le-mul_right, lt_of_mul-lt-mul_right, le_of_mul-le-mul_right, lt-ltb, le-ltb}
+use Rattle.std.proofs.Common.{sym, ◌∙◌, ap, ⊎_elim, mul_assoc, mul_comm, mul_left_comm, mul-pos, mul-le-mul_right, lt_of_mul-lt-mul_right}
+use Rattle.std.proofs.Common.{le_of_mul-le-mul_right, lt-ltb, le-ltb}
 use Rattle.std.proofs.Math.Bool.{Bool, true, false}
 use mathlib.Core.List.{List, [], ◌∷◌}
 use Rattle.std.specs.Int.{◌∣◌}
-use Rattle.std.proofs.Math.Nat.{mul-lt-mul_of_pos_right, le-suc_iff, one-le-pow, pow-succ', pow-le-pow_right, dvd-mul_right, dvd-mul_left_of_dvd, mul-dvd-mul_right, div-mul_cancel}
+use Rattle.std.proofs.Math.Nat.{mul-lt-mul_of_pos_right, le-suc_iff, one-le-pow, pow-succ', pow-le-pow_right, dvd-mul_right}
+use Rattle.std.proofs.Math.Nat.{dvd-mul_left_of_dvd, mul-dvd-mul_right, div-mul_cancel}
 use native.Mathlib.Omega.{arith}
 use Rattle.apportionment.specs.Quantities.{Fraction, less, size_of}
 use Rattle.apportionment.specs.Leximin.{insert, largest_first, list_less}

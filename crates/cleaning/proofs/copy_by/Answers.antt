@@ -27,7 +27,8 @@ pub slice_bounds-hand_over-end : goal.slice_bounds-hand_over-end
 slice_bounds-hand_over-end c = (front-of-page (goal.at.slice_bounds-hand_over-end c).After-put_clean-size).within
 
 pub slice_bounds-hand_over-end-2 : goal.slice_bounds-hand_over-end-2
-slice_bounds-hand_over-end-2 c = sym (length-take-le _ _ (front-of-page (goal.at.slice_bounds-hand_over-end-2 c).After-put_clean-size).within)
+slice_bounds-hand_over-end-2 c =
+    sym (length-take-le _ _ (front-of-page (goal.at.slice_bounds-hand_over-end-2 c).After-put_clean-size).within)
 
 pub returns : goal.returns
 returns c =

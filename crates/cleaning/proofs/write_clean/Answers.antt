@@ -14,14 +14,25 @@ returns-then-reading-ne-ACCEPTED c =
     rw c.refused.ensures (reading_refused _ _ is c.if-reading-ne-ACCEPTED.true)
 
 pub copy_few-requires : goal.copy_few-requires
-copy_few-requires c = record { cleanable = (read_cleanable (accepted-there (goal.at.copy_few-requires c).Else-reading-ne-ACCEPTED) c.of-rows.ensures, omega arith); placed = rw c.of-rows.ensures (c.read_places-reading.ensures.placed c.if-reading-ne-ACCEPTED.false) }
+copy_few-requires c =
+    record {
+      cleanable =
+          (read_cleanable (accepted-there (goal.at.copy_few-requires c).Else-reading-ne-ACCEPTED) c.of-rows.ensures, omega arith);
+      placed =
+          rw c.of-rows.ensures (c.read_places-reading.ensures.placed c.if-reading-ne-ACCEPTED.false);
+    }
 
 pub returns-then-reading-le-FEW_STATES : goal.returns-then-reading-le-FEW_STATES
 returns-then-reading-le-FEW_STATES c =
-    read_cleaned (accepted-there (goal.at.returns-then-reading-le-FEW_STATES c).Else-reading-ne-ACCEPTED) c.of-rows.ensures c.copy_few.ensures
+    read_cleaned (accepted-there (goal.at.returns-then-reading-le-FEW_STATES c).Else-reading-ne-ACCEPTED) c.of-rows.ensures
+    c.copy_few.ensures
 
 pub copy_many-requires : goal.copy_many-requires
-copy_many-requires c = record { cleanable = read_cleanable (accepted-there (goal.at.copy_many-requires c).Else-reading-ne-ACCEPTED) c.of-rows.ensures; placed = rw c.of-rows.ensures (c.read_places-reading.ensures.placed c.if-reading-ne-ACCEPTED.false) }
+copy_many-requires c =
+    record {
+      cleanable = read_cleanable (accepted-there (goal.at.copy_many-requires c).Else-reading-ne-ACCEPTED) c.of-rows.ensures;
+      placed = rw c.of-rows.ensures (c.read_places-reading.ensures.placed c.if-reading-ne-ACCEPTED.false);
+    }
 
 pub returns : goal.returns
 returns c =

@@ -1,7 +1,7 @@
 -- How near the shown size is to the exact one, and what is shown at the edges: at zero, at halves and at the largest departures. Laws for
 -- every input, then one list of computed answers. How large a shown departure can be is in apportionment/specs/inner/Quantities.antt.
 -- Assumes nothing.
-use Rattle.std.specs.Prelude.{◌≡◌, refl, cond, List, [], ◌∷◌, map, ℕ, suc, ◌+◌, ◌-◌, ◌*◌, ◌/◌, ◌<◌, ◌≤◌, ℤ, pos, negsuc, neg_ℤ}
+use Rattle.std.specs.Prelude.{◌≡◌, refl, cond, List, [], ◌∷◌, map, ℕ, suc, ◌+◌, ◌*◌, ◌/◌, ◌<◌, ◌≤◌, ℤ, pos, negsuc, neg_ℤ}
 use Rattle.std.proofs.Math.Option.{Option}
 use Rattle.std.proofs.Common.{add-mul, mul_assoc, mul_left_comm, one-mul, div-add-mod', mod-lt, add-one, arith}
 use Rattle.std.proofs.Math.Nat.{div-eq_of_lt, div-eq_of_lt-le}

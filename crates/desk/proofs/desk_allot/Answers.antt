@@ -7,7 +7,8 @@ use Rattle.desk.proofs.desk_allot.Goals as goal
 
 pub returns-then-method-gt-LAST : goal.returns-then-method-gt-LAST
 unfolding allotted_by seats_by
-returns-then-method-gt-LAST c = record { value = rw (lt-ltb _ _ c.if-method-gt-LAST.true); seats_after = rw (lt-ltb _ _ c.if-method-gt-LAST.true) }
+returns-then-method-gt-LAST c =
+    record { value = rw (lt-ltb _ _ c.if-method-gt-LAST.true); seats_after = rw (lt-ltb _ _ c.if-method-gt-LAST.true) }
 
 pub returns : goal.returns
 returns c =

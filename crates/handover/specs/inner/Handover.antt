@@ -1,7 +1,7 @@
 -- What handing a text over to a lent buffer comes to in each of its cases, and what a program prints that has room for every text. Every
 -- writer cites these laws.
 -- Assumes nothing.
-use Rattle.std.specs.Prelude.{◌≡◌, refl, cond, List, ◌++◌, ℕ, ◌+◌, ◌^◌, ◌<◌, ◌≤◌, leb, eqb, take}
+use Rattle.std.specs.Prelude.{◌≡◌, refl, cond, List, ◌++◌, ℕ, ◌^◌, ◌<◌, ◌≤◌, leb, eqb, take}
 use Rattle.std.proofs.Common.{◌∙◌, zero-add, arith}
 use borrow.Author.Tests.{eq-eqb, ne_eqb, eqb-true, eqb-false, le-leb, lt-leb}
 use Rattle.std.proofs.Math.ListN.{length, drop}

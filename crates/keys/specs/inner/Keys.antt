@@ -2,7 +2,8 @@
 -- these are equal.
 -- Assumes nothing.
 use Rattle.std.specs.Prelude.{◌≡◌, ltb}
-use Rattle.std.proofs.Common.{sym, ◌∙◌, mul-le-mul_right, le-div_iff_mul-le, div-mul-le_self, le_of_mul-le-mul_right, arith, lt-ltb, le-ltb, ltb-true, ltb-false}
+use Rattle.std.proofs.Common.{sym, ◌∙◌, mul-le-mul_right, le-div_iff_mul-le, div-mul-le_self, le_of_mul-le-mul_right, arith, lt-ltb}
+use Rattle.std.proofs.Common.{le-ltb, ltb-true, ltb-false}
 use Prim.Native.Nat.{ℕ, suc, ◌+◌, ◌*◌, ◌/◌, ◌<◌, ◌≤◌}
 use Rattle.apportionment.specs.inner.Tests.{either_way}
 

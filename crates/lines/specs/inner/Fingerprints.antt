@@ -1,7 +1,8 @@
 -- Fingerprints of names: a number for each name, so that a name is compared with those of the lines before its own only where its
 -- number is theirs. What reading gives does not speak of them: a reader who only wants the grammar need not read this file.
 -- Assumes nothing.
-use Rattle.std.specs.Prelude.{◌≡◌, refl, Bool, true, false, cond, ◌&&◌, ◌||◌, List, [], ◌∷◌, ℕ, zero, suc, ◌+◌, ◌*◌, ◌%◌, ◌<◌, ◌≤◌, eqb, leb, length, get_or, take, drop}
+use Rattle.std.specs.Prelude.{◌≡◌, refl, Bool, true, false, cond, ◌&&◌, ◌||◌, List, [], ◌∷◌, ℕ, zero, suc, ◌+◌, ◌*◌, ◌%◌, ◌<◌, ◌≤◌, eqb}
+use Rattle.std.specs.Prelude.{leb, length, get_or, take, drop}
 use Rattle.std.proofs.Common.{sym, ◌∙◌, true≢false, arith, eq-eqb, ne_eqb, drop_of_length-le}
 use Rattle.std.proofs.Math.Bool.{and-true}
 use Rattle.apportionment.specs.inner.Tests.{either_way}

@@ -2,8 +2,10 @@
 -- so that the name of a later line is compared byte by byte only where a name of its own fingerprint stands, and no line is cut again.
 -- What reading gives does not speak of them: a reader who only wants the grammar need not read this file.
 -- Assumes nothing.
-use Rattle.std.specs.Prelude.{◌≡◌, refl, Bool, true, false, List, [], ◌∷◌, ℕ, zero, suc, ◌+◌, ◌-◌, ◌<◌, ◌≤◌, leb, eqb, length, get_or, take, drop}
-use Rattle.std.proofs.Common.{sym, ap, ◌∙◌, true≢false, zero-le, suc-le-suc, le_refl, le_trans, arith, leb-true, leb-false, length-drop, drop_of_length-le, take-take, drop-drop, length-take-le, get_or-take}
+use Rattle.std.specs.Prelude.{◌≡◌, refl, Bool, true, false, List, [], ◌∷◌, ℕ, zero, suc, ◌+◌, ◌-◌, ◌<◌, ◌≤◌, leb, eqb, length, get_or}
+use Rattle.std.specs.Prelude.{take, drop}
+use Rattle.std.proofs.Common.{sym, ap, ◌∙◌, true≢false, zero-le, suc-le-suc, le_refl, le_trans, arith, leb-true, leb-false, length-drop}
+use Rattle.std.proofs.Common.{drop_of_length-le, take-take, drop-drop, length-take-le, get_or-take}
 use Rattle.apportionment.specs.Limits.{state_limit}
 use Rattle.apportionment.specs.Lists.{same_list}
 use Rattle.apportionment.specs.inner.Lists.{same_list_equal}

@@ -23,7 +23,11 @@ returns-then-allotted-ne-ACCEPTED c =
 
 pub list_seats-requires : goal.list_seats-requires
 list_seats-requires c =
-    let read = c.requires.read in record { listable = told_listable read.0 read.1 c.allot-allotted.ensures c.if-allotted-ne-ACCEPTED.false c.of-rows.ensures; placed = rw c.of-rows.ensures c.requires.placed }
+    let read = c.requires.read in
+    record {
+      listable = told_listable read.0 read.1 c.allot-allotted.ensures c.if-allotted-ne-ACCEPTED.false c.of-rows.ensures;
+      placed = rw c.of-rows.ensures c.requires.placed;
+    }
 
 pub returns : goal.returns
 returns c =

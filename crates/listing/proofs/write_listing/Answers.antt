@@ -22,7 +22,14 @@ slice_bounds-list_states-end-3 c =
     simp length-take (omega (arith, (good_sound (was_read (goal.at.slice_bounds-list_states-end-3 c).Else-reading-ne-ACCEPTED)).states))
 
 pub list_states-requires : goal.list_states-requires
-list_states-requires c = record { read = (was_read (goal.at.list_states-requires c).Else-reading-ne-ACCEPTED, simp length-take (omega (arith, (good_sound (was_read (goal.at.list_states-requires c).Else-reading-ne-ACCEPTED)).states))); placed = c.read_places-reading.ensures.placed c.if-reading-ne-ACCEPTED.false }
+list_states-requires c =
+    record {
+      read = (
+        was_read (goal.at.list_states-requires c).Else-reading-ne-ACCEPTED,
+        simp length-take (omega (arith, (good_sound (was_read (goal.at.list_states-requires c).Else-reading-ne-ACCEPTED)).states)),
+      );
+      placed = c.read_places-reading.ensures.placed c.if-reading-ne-ACCEPTED.false;
+    }
 
 pub returns : goal.returns
 returns c = c.list_states.ensures

@@ -34,8 +34,10 @@ example_listing =
 
 -- What is read of the document's register, with the names of its states, comes to the document's listing ..
 listing_laid_out : listing_in example_reading example_name (seats_in example_reading) ≡ example_listing
-unfolding listing_in numbers_text head_line state_lines state_line departure_text total_line seats_in method_text decimal decimal_with sum less at_most
-    distance size_of is_below nearest_whole shown_size shown_of shown_size_text shown_text mark_of mark_for mark_text sizes_of insert largest_first
+unfolding listing_in numbers_text head_line state_lines state_line departure_text total_line seats_in method_text decimal decimal_with sum
+    less at_most
+    distance size_of is_below nearest_whole shown_size shown_of shown_size_text shown_text mark_of mark_for mark_text sizes_of insert
+    largest_first
     list_less more_at_first size_list chosen_before with_first allotments first_of first_of_all leximin_for seats_of
 listing_laid_out = refl
 

@@ -49,7 +49,8 @@ module _ (s : List ℕ) (good : (reading_of s).refusal ≡ accepted) (allotted :
   shared = rw counted at (allotment_shared _ _ _ _ passed)
 
   within : (i : ℕ) → i < (reading_of s).states
-      → InLimits (get_or (populations_in (reading_of s)) i 0) (get_or (seats_in (reading_of s)) i 0) (reading_of s).total (reading_of s).house
+      → InLimits (get_or (populations_in (reading_of s)) i 0) (get_or (seats_in (reading_of s)) i 0) (reading_of s).total
+      (reading_of s).house
   within i below =
       let so = sound.populations in
       let some = passed.problem.states.peopled i (omega (arith, counted)) in
@@ -97,7 +98,8 @@ unfolding list_refusal_in
 allotting_decides s good = rw (eq-eqb (reading_of s).refusal accepted good)
 
 -- Every listing has room in a page of that size.
-pub listing_in_page : (s : List ℕ) {room : ℕ} → listing_room ≤ room → list_refusal_in (reading_of s) ≡ accepted → length (listing_of s) ≤ room
+pub listing_in_page : (s : List ℕ) {room : ℕ} → listing_room ≤ room → list_refusal_in (reading_of s) ≡ accepted
+    → length (listing_of s) ≤ room
 unfolding list_refusal_in
 listing_in_page s enough none =
     either_way (eqb (reading_of s).refusal accepted)

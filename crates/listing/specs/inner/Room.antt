@@ -35,7 +35,8 @@ listing_room = head_room + state_limit * line_room + total_room
 
 -- ---- lines
 
-state_line_length : (name : List ℕ) {p a P H : ℕ} → length name ≤ name_limit → InLimits p a P H → length (state_line name p a P H) ≤ line_room
+state_line_length : (name : List ℕ) {p a P H : ℕ} → length name ≤ name_limit → InLimits p a P H
+    → length (state_line name p a P H) ≤ line_room
 unfolding state_line
 state_line_length name {p} {a} {P} {H} short fit =
     simp length-append

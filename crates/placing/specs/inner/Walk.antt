@@ -1,7 +1,7 @@
 -- Moving from the start: the start is the placing after no step, a move leads so many steps on and no further than the house, and two
 -- moves are one by the sum.
 -- Assumes nothing.
-use Rattle.std.specs.Prelude.{◌≡◌, true, false, ltb, length}
+use Rattle.std.specs.Prelude.{◌≡◌, false, ltb, length}
 use Rattle.std.proofs.Math.Path.{refl, ap}
 use Rattle.std.proofs.Common.{sym, ◌∙◌, arith}
 use mathlib.Core.List.{List}

@@ -11,7 +11,8 @@ use Rattle.apportionment.specs.inner.Checks.{inside_limits, check_passed}
 use Rattle.apportionment.specs.inner.Problem.{Problem, Fillable}
 use Rattle.apportionment.specs.inner.Tests.{either_way}
 use Rattle.apportionment.specs.Lists.{sum}
-use Rattle.apportionment.specs.Allotment.{states_outside, house_outside, has_zero, sum_outside, list_misfits, seats_every_state, seats_too_few}
+use Rattle.apportionment.specs.Allotment.{states_outside, house_outside, has_zero, sum_outside, list_misfits, seats_every_state}
+use Rattle.apportionment.specs.Allotment.{seats_too_few}
 use Rattle.apportionment.specs.Allotment.{problem_checks, allot_refusal, open_refusal}
 use Rattle.apportionment.specs.declared.Method.{Method}
 use Rattle.apportionment.specs.declared.Method.TheVariants.{Leximin}

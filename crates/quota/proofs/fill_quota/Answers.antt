@@ -11,4 +11,7 @@ slice_bounds-fill_counted-end c =
 
 pub fill_counted-requires : goal.fill_counted-requires
 fill_counted-requires c =
-    record { fillable = c.requires; due_len = (simp length-take (omega (arith, c.requires.problem.house_within)), sum_first_zeros c.args.house house_limit) }
+    record {
+      fillable = c.requires;
+      due_len = (simp length-take (omega (arith, c.requires.problem.house_within)), sum_first_zeros c.args.house house_limit);
+    }

@@ -128,7 +128,8 @@ module _ {ps : List ℕ} (ok : Peopled ps) {H : ℕ} where
       first : (i : ℕ) → i < length ps → (get_or xs i 0 ≡ get_or ys i 0 → ⊥)
           → comes (quotient_test ps) i (whole_part ps H i) c (whole_part ps H c) ≡ false
       first i hi apart =
-          let place : (j : ℕ) → j < length ps → get_or (whole_parts ps H) j 0 ≡ whole_part ps H j = get_d_list_of (whole_part ps H) (length ps) in
+          let place : (j : ℕ) → j < length ps → get_or (whole_parts ps H) j 0 ≡ whole_part ps H j =
+          get_d_list_of (whole_part ps H) (length ps) in
           rw (place i hi, place c hc) at
           (none_comes (quotient_order ps ok.people) ok.some differs (whole_parts ps H) i hi (differs_where i apart))
 

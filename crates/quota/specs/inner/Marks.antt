@@ -1,7 +1,8 @@
 -- Counts of the seats of whole parts that are due from each number on, as the code keeps them.
 -- Assumes nothing.
 use Rattle.std.specs.Prelude.{◌≡◌, refl, true, false, cond, List, ℕ, zero, suc, ◌+◌, ◌*◌, ◌/◌, ◌<◌, ◌≤◌, ltb, length, get_or}
-use Rattle.std.proofs.Common.{sym, ◌∙◌, ⊎_elim, mul_comm, mul-lt-mul_of_pos_right, lt_of_lt_of_le, div-lt_iff_lt-mul, le-div_iff_mul-le, div-mul-le_self, add-zero, add-one, arith, lt-ltb, le-ltb, ltb-true, ltb-false}
+use Rattle.std.proofs.Common.{sym, ◌∙◌, ⊎_elim, mul_comm, mul-lt-mul_of_pos_right, lt_of_lt_of_le, div-lt_iff_lt-mul, le-div_iff_mul-le}
+use Rattle.std.proofs.Common.{div-mul-le_self, add-zero, add-one, arith, lt-ltb, le-ltb, ltb-true, ltb-false}
 use Rattle.apportionment.specs.Limits.{house_limit, sum_limit}
 use Rattle.apportionment.specs.Lists.{sum, list_of}
 use Rattle.apportionment.specs.Divisor.{one_more}
@@ -94,7 +95,8 @@ marked_more {p} {P} {seats} {before} {due} ok a h so_far =
 -- ---- the seats of all whole parts
 
 -- A whole part, from a list and a total that were handed over.
-module _ {ps : List ℕ} {P H : ℕ} (ok : Problem ps P H) {wholes : List ℕ} (are : wholes ≡ whole_parts ps H) (i : ℕ) (hi : i < length ps) where
+module _ {ps : List ℕ} {P H : ℕ} (ok : Problem ps P H) {wholes : List ℕ} (are : wholes ≡ whole_parts ps H) (i : ℕ)
+    (hi : i < length ps) where
   pub wholes_long : length wholes ≡ length ps
   wholes_long = rw are (length-list_of (whole_part ps H) (length ps))
 

@@ -348,7 +348,8 @@ pub record EntryFits (p P H whole : ℕ) : Type 0 where
   pub share : whole * P ≤ p * H
   pub fits : Fits w64 (p * H)
 
-module _ {ps : List ℕ} {P H : ℕ} (ok : Problem ps P H) {wholes : List ℕ} (are : wholes ≡ whole_parts ps H) (i : ℕ) (hi : i < length ps) where
+module _ {ps : List ℕ} {P H : ℕ} (ok : Problem ps P H) {wholes : List ℕ} (are : wholes ≡ whole_parts ps H) (i : ℕ)
+    (hi : i < length ps) where
   pub entry_fits : EntryFits (get_or ps i 0) P H (get_or wholes i 0)
   entry_fits = record { someone = ok.states.peopled i hi; share = share_within ok are i hi; fits = share_fits ok i }
 

@@ -3,7 +3,9 @@
 -- Assumes nothing.
 use Rattle.std.specs.Prelude.{◌≡◌, Bool, true, false, List, ltb, leb, length}
 use Rattle.std.proofs.Math.Path.{refl, ap}
-use Rattle.std.proofs.Common.{sym, ◌∙◌, mul_comm, add-mul, suc-mul, mul-le-mul_left, mul-le-mul_right, le_trans, le_refl, lt_of_lt_of_le, le-div_iff_mul-le, div-lt_iff_lt-mul, lt_of_mul-lt-mul_right, arith, ltb-true, ltb-false, leb-true, leb-false, le-leb}
+use Rattle.std.proofs.Common.{sym, ◌∙◌, mul_comm, add-mul, suc-mul, mul-le-mul_left, mul-le-mul_right, le_trans, le_refl, lt_of_lt_of_le}
+use Rattle.std.proofs.Common.{le-div_iff_mul-le, div-lt_iff_lt-mul, lt_of_mul-lt-mul_right, arith, ltb-true, ltb-false, leb-true}
+use Rattle.std.proofs.Common.{leb-false, le-leb}
 use Rattle.std.proofs.Math.Logic.{inr}
 use Rattle.std.proofs.lemmas.Bool.{false≢true}
 use Prim.Native.Nat.{ℕ, zero, suc, ◌+◌, ◌-◌, ◌*◌, ◌/◌, ◌<◌, ◌≤◌}

@@ -1,7 +1,8 @@
 -- How many of a state's first m seats it was able to have by number s: those a < m with a P < p s. And the sums of these over all states.
 -- Assumes nothing.
 use Rattle.std.specs.Prelude.{◌≡◌, cond, List, ℕ, zero, suc, ◌+◌, ◌-◌, ◌*◌, ◌<◌, ◌≤◌, ltb, length, get_or}
-use Rattle.std.proofs.Common.{◌∙◌, mul-le-mul_left, mul-le-mul_right, le_trans, lt_of_lt_of_le, zero-add, suc-add, add-one, arith, lt-ltb, le-ltb, ltb-true, ltb-false}
+use Rattle.std.proofs.Common.{◌∙◌, mul-le-mul_left, mul-le-mul_right, le_trans, lt_of_lt_of_le, zero-add, suc-add, add-one, arith, lt-ltb}
+use Rattle.std.proofs.Common.{le-ltb, ltb-true, ltb-false}
 use Rattle.apportionment.specs.Lists.{sum, count_below, list_of}
 use Rattle.apportionment.specs.inner.Tests.{either_way}
 use Rattle.apportionment.specs.inner.Lists.{count_none, count_one_more, count_within, at_most_one}

@@ -198,7 +198,8 @@ module _ {ps : List ℕ} (ok : Peopled ps) (H : ℕ) where
   ready_within t =
       omega (
         arith,
-        sum-list_of_at_most (λ (i : ℕ). released (get_or ps i 0) P (get_or (whole_parts ps H) i 0) t) (λ (i : ℕ). get_or (whole_parts ps H) i 0) n
+        sum-list_of_at_most (λ (i : ℕ). released (get_or ps i 0) P (get_or (whole_parts ps H) i 0) t)
+            (λ (i : ℕ). get_or (whole_parts ps H) i 0) n
             (λ i hi. released_within (get_or ps i 0) P t (get_or (whole_parts ps H) i 0)),
         sum_of_places n (whole_parts ps H) (length-list_of (whole_part ps H) n),
       )
@@ -212,7 +213,8 @@ module _ {ps : List ℕ} (ok : Peopled ps) (H : ℕ) where
   all_ready =
       omega (
         arith,
-        sum-list_of_at_most (λ (i : ℕ). get_or (whole_parts ps H) i 0) (λ (i : ℕ). released (get_or ps i 0) P (get_or (whole_parts ps H) i 0) H) n
+        sum-list_of_at_most (λ (i : ℕ). get_or (whole_parts ps H) i 0)
+            (λ (i : ℕ). released (get_or ps i 0) P (get_or (whole_parts ps H) i 0) H) n
             each,
         sum_of_places n (whole_parts ps H) (length-list_of (whole_part ps H) n),
       )

@@ -151,7 +151,8 @@ module _ {ps : List ℕ} (ok : Peopled ps) {x : ℕ → List ℕ} {H : ℕ} (run
               (λ e.
               let there = ltb-true (whole_part ps H i) (get_or (x s) i 0) e in
               let had = gained_able ok run s so.within i (omega (arith, there, pace.starts i hi)) in
-              let no_less : whole_part ps H i * sum ps ≤ (get_or (x s) i 0 - 1) * sum ps = mul-le-mul_right (sum ps) (omega (arith, there)) in
+              let no_less : whole_part ps H i * sum ps ≤ (get_or (x s) i 0 - 1) * sum ps =
+              mul-le-mul_right (sum ps) (omega (arith, there)) in
               absurd (omega (arith, had, no_less, late)))
               (λ e. omega (arith, more, ltb-false (whole_part ps H i) (get_or (x s) i 0) e))
 

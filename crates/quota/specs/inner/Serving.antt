@@ -4,7 +4,7 @@
 use Rattle.std.specs.Prelude.{◌≡◌, refl, ◌⊎◌, Bool, true, false, List, ℕ, zero, suc, ◌+◌, ◌-◌, ◌*◌, ◌<◌, ◌≤◌, ltb, length, get_or}
 use Rattle.std.proofs.Common.{sym, ◌∙◌, inl, inr, ⊎_elim, mul-le-mul_left, lt_of_lt_of_le, le_refl, arith, ltb-true, ltb-false}
 use Rattle.std.proofs.lemmas.Bool.{false≢true}
-use Rattle.apportionment.specs.Lists.{sum, among}
+use Rattle.apportionment.specs.Lists.{sum}
 use Rattle.apportionment.specs.Divisor.{one_more}
 use Rattle.apportionment.specs.Quota.{able, quotient_before, seat_goes_to}
 use Rattle.apportionment.specs.inner.Tests.{either_way}

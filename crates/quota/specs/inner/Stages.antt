@@ -4,7 +4,8 @@
 -- Assumes nothing.
 use Rattle.std.specs.Prelude.{◌≡◌, Bool, true, cond, List, ℕ, zero, suc, ◌+◌, ◌-◌, ◌*◌, ◌/◌, ◌<◌, ◌≤◌, ltb, length, get_or}
 use Rattle.std.proofs.Math.Path.{refl}
-use Rattle.std.proofs.Common.{sym, ap, ◌∙◌, mul_comm, mul-le-mul, mul-le-mul_left, le_trans, div-lt_iff_lt-mul, le-div_iff_mul-le, arith, lit≤, lt-ltb, le-ltb}
+use Rattle.std.proofs.Common.{sym, ap, ◌∙◌, mul_comm, mul-le-mul, mul-le-mul_left, le_trans, div-lt_iff_lt-mul, le-div_iff_mul-le, arith}
+use Rattle.std.proofs.Common.{lit≤, lt-ltb, le-ltb}
 use Rattle.apportionment.specs.Limits.{house_limit}
 use Rattle.apportionment.specs.Lists.{sum, among, first_place}
 use Rattle.apportionment.specs.Quantities.{less}

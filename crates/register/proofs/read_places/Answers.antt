@@ -33,7 +33,11 @@ same-placed count same placed = rw (count, ← same) placed
 
 pub returns-then-bytes-gt-REGISTER_LIMIT : goal.returns-then-bytes-gt-REGISTER_LIMIT
 unfolding reading_of refused
-returns-then-bytes-gt-REGISTER_LIMIT c = record { reading = c.refused.ensures ∙ simp (lt-ltb _ _ c.if-bytes-gt-REGISTER_LIMIT.true); placed = λ none. absurd (omega (arith, none, ap (λ r. r.refusal) c.refused.ensures)) }
+returns-then-bytes-gt-REGISTER_LIMIT c =
+    record {
+      reading = c.refused.ensures ∙ simp (lt-ltb _ _ c.if-bytes-gt-REGISTER_LIMIT.true);
+      placed = λ none. absurd (omega (arith, none, ap (λ r. r.refusal) c.refused.ensures));
+    }
 
 pub returns-then-head-ne0 : goal.returns-then-head-ne0
 unfolding reading_of lines_of refused
@@ -64,6 +68,7 @@ returns c =
     record {
       reading = is;
       placed = λ none.
-          let counted = ap (λ r. r.states) is ∙ reading_counted (bytes (goal.at.returns c).Else-head-ne0) (sym (ap (λ r. r.refusal) is) ∙ none) in
+          let counted = ap (λ r. r.states) is
+          ∙ reading_counted (bytes (goal.at.returns c).Else-head-ne0) (sym (ap (λ r. r.refusal) is) ∙ none) in
           same-placed (counted ∙ sym (ap (λ h. h.states) head)) c.of.ensures (c.read_states.ensures.placed none);
     }

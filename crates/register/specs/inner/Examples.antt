@@ -10,9 +10,11 @@ use Rattle.apportionment.specs.Refusals.{within, outside, first_refusal}
 use Rattle.apportionment.specs.declared.Method.TheVariants.{Leximin}
 use Rattle.fields.specs.Grammar.{place_of, has, before, after, all_between}
 use Rattle.apportionment.specs.Methods.{method_text}
-use Rattle.fields.specs.Grammar.{line_feed, ended, last_byte, without_return, line_of, rest_of, field_of, fields_after, is_number, value_from}
+use Rattle.fields.specs.Grammar.{line_feed, ended, last_byte, without_return, line_of, rest_of, field_of, fields_after, is_number}
+use Rattle.fields.specs.Grammar.{value_from}
 use Rattle.fields.specs.Grammar.{value_of, is_name, is_method_field, first_named, method_named}
-use Rattle.lines.specs.Lines.{method_field, house_field, count_field, head_formed, is_head, head_refused, head_of, name_at, number_field, number_at}
+use Rattle.lines.specs.Lines.{method_field, house_field, count_field, head_formed, is_head, head_refused, head_of, name_at, number_field}
+use Rattle.lines.specs.Lines.{number_at}
 use Rattle.lines.specs.Lines.{pair_formed, is_state_line, is_closing_line, used_in, state_refusal, closing_refusal}
 use Rattle.lines.specs.Lines.{is_unknown, method_in, head_refusal, head_read}
 use Rattle.register.specs.Register.{no_populations, refused, accepts, end_of, closing_of, states_from, states_of, lines_of, reading_of}
@@ -63,10 +65,13 @@ pub examples_hold :
     × (name_of example 4 ≡ bytes_of "E")
     × (reading_of [] ≡ refused line_ill_formed 1)
     × (reading_of zero_population ≡ refused number_out_of_limits 3)
-unfolding same_list within outside first_refusal place_of has before after all_between ended last_byte without_return line_of rest_of field_of
-    fields_after is_number value_from value_of is_name is_method_field method_text first_named method_named method_field house_field count_field
+unfolding same_list within outside first_refusal place_of has before after all_between ended last_byte without_return line_of rest_of
+    field_of
+    fields_after is_number value_from value_of is_name is_method_field method_text first_named method_named method_field house_field
+    count_field
     head_formed is_head is_unknown method_in head_refusal head_refused head_read head_of name_at number_field number_at pair_formed
-    is_state_line is_closing_line used_in state_refusal closing_refusal no_populations refused accepts end_of closing_of states_from states_of
+    is_state_line is_closing_line used_in state_refusal closing_refusal no_populations refused accepts end_of closing_of states_from
+    states_of
     lines_of reading_of lines_after name_refusal_in name_refusal_of name_of
 examples_hold = (refl, refl, refl, refl)
 

@@ -7,7 +7,8 @@ use Rattle.apportionment.specs.Limits.{state_limit}
 use Rattle.fields.specs.Grammar.{rest_of}
 use Rattle.lines.specs.Lines.{name_at}
 use Rattle.lines.specs.inner.Fingerprints.{fingerprint_of}
-use Rattle.lines.specs.inner.Places.{EndOf, drop_is_end, end_of_end, rest_is_end, name_is_front, name_on, part_of, Stands, NamesAt, NamesKept}
+use Rattle.lines.specs.inner.Places.{EndOf, drop_is_end, end_of_end, rest_is_end, name_is_front, name_on, part_of, Stands, NamesAt}
+use Rattle.lines.specs.inner.Places.{NamesKept}
 use Rattle.register.specs.Register.{lines_after}
 use Rattle.register.specs.inner.Names.{lines_next}
 

@@ -3,7 +3,8 @@
 -- Assumes nothing.
 use Rattle.std.specs.Prelude.{◌≡◌, true, false, List, [], ◌∷◌, ◌++◌, get_or, set, take, drop, replicate}
 use Rattle.std.proofs.Math.Path.{refl}
-use Rattle.std.proofs.Common.{sym, ap, ◌∙◌, append-nil, le-ltb, take-append-drop, length-drop, length-take-le, take-suc, get_or-take, get_or-drop, take-take, ext_get_or}
+use Rattle.std.proofs.Common.{sym, ap, ◌∙◌, append-nil, le-ltb, take-append-drop, length-drop, length-take-le, take-suc, get_or-take}
+use Rattle.std.proofs.Common.{get_or-drop, take-take, ext_get_or}
 use Prim.Native.Nat.{ℕ, zero, suc, ◌+◌, ◌-◌, ◌<◌, ◌≤◌}
 use Rattle.std.proofs.Math.Numerals.{add-one}
 use native.Mathlib.Omega.{arith}

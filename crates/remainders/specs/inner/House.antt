@@ -3,11 +3,12 @@
 -- Assumes nothing.
 use Rattle.std.specs.Prelude.{◌≡◌, List, length, get_or}
 use Rattle.std.proofs.Common.{sym, ap, ◌∙◌, add-one}
-use Prim.Native.Nat.{ℕ, zero, suc, ◌+◌, ◌-◌, ◌≤◌}
+use Prim.Native.Nat.{ℕ, zero, suc, ◌+◌, ◌≤◌}
 use native.Mathlib.Omega.{arith}
 use Rattle.apportionment.specs.Lists.{sum, list_of}
 use Rattle.apportionment.specs.Remainders.{whole_part, seats_left, remainder_seats}
-use Rattle.apportionment.specs.inner.Lists.{list_of_places, length-list_of, sum-list_of_none, sum-list_of_more, sum-list_of_both, count_none}
+use Rattle.apportionment.specs.inner.Lists.{list_of_places, length-list_of, sum-list_of_none, sum-list_of_more, sum-list_of_both}
+use Rattle.apportionment.specs.inner.Lists.{count_none}
 use Rattle.apportionment.specs.inner.Problem.{Problem}
 use Rattle.apportionment.specs.inner.WholeParts.{whole_parts, whole_parts_within, left_within_states}
 use Rattle.bar.specs.inner.Reaching.{reaches}

@@ -1,7 +1,7 @@
 -- The precedence of a state is the number by which the seats that are left are served, the larger first; equal ones go in register order.
 -- What the method says of the order of states is told once, by `precedence_decides`: another order is another precedence.
 -- Assumes nothing.
-use Rattle.std.specs.Prelude.{◌≡◌, refl, Bool, true, false, cond, List, ℕ, suc, ◌+◌, ◌-◌, ◌*◌, ◌/◌, ◌%◌, ◌≤◌, ◌<◌, ltb, leb, length, get_or}
+use Rattle.std.specs.Prelude.{◌≡◌, refl, Bool, true, false, cond, List, ℕ, suc, ◌+◌, ◌*◌, ◌/◌, ◌%◌, ◌≤◌, ◌<◌, ltb, leb, length, get_or}
 use Rattle.std.proofs.Common.{sym, arith, le_refl, suc-mul, mul-le-mul_right, Fits, ltb-true, ltb-false, lt-ltb, le-ltb, le-leb}
 use Rattle.std.specs.Int.{w64}
 use Rattle.std.proofs.lemmas.Bool.{lt-leb}
@@ -122,7 +122,8 @@ precedence_decides {ps} k H i j hi hj =
       weighted_test remainder_weight (r i) (r j) (get_or ps i 0) (get_or ps j 0) (below_weight k i) (below_weight k j),
       weighted_test remainder_weight (r j) (r i) (get_or ps j 0) (get_or ps i 0) (below_weight k j) (below_weight k i),
     )
-    (tests_in_turn (ltb (r i) (r j)) (ltb (r j) (r i)) (ltb (get_or ps i 0) (get_or ps j 0)) (ltb (get_or ps j 0) (get_or ps i 0)) (ltb j i))
+    (tests_in_turn (ltb (r i) (r j)) (ltb (r j) (r i)) (ltb (get_or ps i 0) (get_or ps j 0)) (ltb (get_or ps j 0) (get_or ps i 0))
+    (ltb j i))
 
 -- So ranks are those of the precedences.
 pub rank_is : {ps : List ℕ} {P : ℕ} → States ps P → (H i : ℕ) → i < length ps → rank ps H i ≡ rank_in (precedences_of ps H) i

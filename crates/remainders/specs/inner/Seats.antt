@@ -86,7 +86,8 @@ is_searchable {ps} {P} {H} {xs} {seats} {r} ok filled = record {
     long = ap length filled.precedences_are ∙ length-list_of (precedence_at ps H) (length ps)
 
     own : (i : ℕ) → i < length xs → get_or xs i 0 ≡ precedence_at ps H i
-    own i h = ap (λ (l : List ℕ). get_or l i 0) filled.precedences_are ∙ get_d_list_of (precedence_at ps H) (length ps) i (omega (arith, long))
+    own i h = ap (λ (l : List ℕ). get_or l i 0) filled.precedences_are
+        ∙ get_d_list_of (precedence_at ps H) (length ps) i (omega (arith, long))
 
     below : (i : ℕ) → i < length xs → r.least ≤ get_or xs i 0
     below i h = rw (own i h) (filled.spans.low i (omega (arith, long)))

@@ -26,7 +26,8 @@ unfoldable pub spare_at : (xs : List ℕ) (bar spare k : ℕ) → ℕ
 spare_at xs bar spare zero = spare
 spare_at xs bar spare (suc k) = spare_after (get_or xs k 0) bar (spare_at xs bar spare k)
 
-pub spare_one_more : (xs : List ℕ) (bar spare k : ℕ) → spare_at xs bar spare (k + 1) ≡ spare_after (get_or xs k 0) bar (spare_at xs bar spare k)
+pub spare_one_more : (xs : List ℕ) (bar spare k : ℕ) → spare_at xs bar spare (k + 1)
+    ≡ spare_after (get_or xs k 0) bar (spare_at xs bar spare k)
 unfolding spare_at
 spare_one_more xs bar spare k = rw add-one
 
@@ -143,7 +144,8 @@ module _ (xs : List ℕ) (left bar : ℕ) (b : Bar xs left bar) where
       (λ e. simp (e, ne_eqb spare 0 (λ z. omega (arith, ltb-true (rank_in xs i) left e, b.above))))
       (λ e. simp (e, eq-eqb spare 0 (omega (arith, ltb-false (rank_in xs i) left e, b.above))))
 
-  pub served_by_rank : (i : ℕ) → i < length xs → extra_by (get_or xs i 0) bar (spare_at xs bar (spare_for xs left bar) i) ≡ extra_in xs left i
+  pub served_by_rank : (i : ℕ) → i < length xs → extra_by (get_or xs i 0) bar (spare_at xs bar (spare_for xs left bar) i)
+      ≡ extra_in xs left i
   unfolding extra_in
   served_by_rank i h = by_place (counted xs bar i) (counted xs (bar + 1) i)
     where

@@ -17,7 +17,8 @@ start c = (goal.at.After-struct_known-1 c).Start
 
 pub slice_bounds-populations-end : goal.slice_bounds-populations-end
 slice_bounds-populations-end c =
-    let full : length (start (goal.at.slice_bounds-populations-end c).After-struct_known-1).args.placing.populations ≡ state_limit = search rules in
+    let full : length (start (goal.at.slice_bounds-populations-end c).After-struct_known-1).args.placing.populations ≡ state_limit =
+    search rules in
     omega (arith, (start (goal.at.slice_bounds-populations-end c).After-struct_known-1).requires.few_states_lem)
 
 pub slice_bounds-put_weighings-end : goal.slice_bounds-put_weighings-end
@@ -37,7 +38,8 @@ slice_bounds-put_weighings-end-2 c =
 
 pub put_weighings-requires : goal.put_weighings-requires
 unfolding people_of seats_in
-put_weighings-requires c = (wrote_nothing _ _ (omega arith), all_weighable (start (goal.at.put_weighings-requires c).After-struct_known-1).requires)
+put_weighings-requires c =
+    (wrote_nothing _ _ (omega arith), all_weighable (start (goal.at.put_weighings-requires c).After-struct_known-1).requires)
 
 pub returns : goal.returns
 unfolding weighed_text people_of seats_in

@@ -19,7 +19,8 @@ use Rattle.text.specs.inner.Departures.{departure_length}
 use Rattle.placing.specs.Placing.{people_of}
 use Rattle.placing.specs.declared.Placing.{Placing}
 use Rattle.showing.specs.Work.{head_line, state_line, state_lines, moved_text, weighed_line, weighed_lines}
-use Rattle.showing.specs.Work.{verb_text, step_line, seats_in, states_text, start_text, end_text, weighed_text, moved_at, step_text, move_text}
+use Rattle.showing.specs.Work.{verb_text, step_line, seats_in, states_text, start_text, end_text, weighed_text, moved_at, step_text}
+use Rattle.showing.specs.Work.{move_text}
 use Rattle.showing.specs.inner.Work.{weighed_at}
 use Rattle.showing.specs.inner.Showable.{total_limit, Showable, ShowableStep, all_weighable, moved_from, moved_to}
 

@@ -33,7 +33,8 @@ module _ {row : List ℕ} {a : ℕ} (k : RowFits row a) where
       let slope = le_trans (entry_at_most_sum row i) k.small in
       omega (arith, k.small, mul-le-mul slope k.seats_within, entry_at_most_sum row j)
 
-  pub quadratic_at_most : (get_or row 0 0 * a + get_or row 1 0) * a + get_or row 2 0 ≤ (row_limit * seat_limit + row_limit) * seat_limit + row_limit
+  pub quadratic_at_most : (get_or row 0 0 * a + get_or row 1 0) * a + get_or row 2 0 ≤
+      (row_limit * seat_limit + row_limit) * seat_limit + row_limit
   quadratic_at_most = omega (arith, k.small, mul-le-mul (line_at_most 0 1) k.seats_within, entry_at_most_sum row 2)
 
 -- (A a + B) a + C is A a² + B a + C.

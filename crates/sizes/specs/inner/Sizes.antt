@@ -1,7 +1,8 @@
 -- Sizes as the code holds them, without the factor P that all sizes of a problem share, and that their order is that of the exact sizes.
 -- Assumes nothing.
 use Rattle.std.specs.Prelude.{◌≡◌, List, Bool, true, false, cond, ℕ, ◌+◌, ◌*◌, ◌/◌, ◌<◌, ◌≤◌, ltb, get_or}
-use Rattle.std.proofs.Common.{arith, add-one, le_trans, mul-le-mul, mul_assoc, mul-lt-mul_of_pos_right, mul-le-mul_right, Fits, lt-ltb, le-ltb, ltb-true, ltb-false}
+use Rattle.std.proofs.Common.{arith, add-one, le_trans, mul-le-mul, mul_assoc, mul-lt-mul_of_pos_right, mul-le-mul_right, Fits, lt-ltb}
+use Rattle.std.proofs.Common.{le-ltb, ltb-true, ltb-false}
 use Rattle.std.proofs.Math.Nat.{div-le_of_le-mul}
 use Rattle.std.specs.Int.{w64}
 use Rattle.apportionment.specs.Limits.{house_limit, sum_limit}

@@ -1,5 +1,6 @@
 -- A turn that goes on adds what it read to what was read before it.
-use Rattle.std.proofs.Common.{◌≡◌, ℕ, ◌+◌, ◌-◌, ◌≤◌, List, ◌++◌, rules, arith, length, take, slice_range, sym, ap, ◌∙◌, subst, le_refl, drop_at, length-take-le}
+use Rattle.std.proofs.Common.{◌≡◌, ℕ, ◌+◌, ◌-◌, ◌≤◌, List, ◌++◌, rules, arith, length, take, slice_range, sym, ap, ◌∙◌, subst, le_refl}
+use Rattle.std.proofs.Common.{drop_at, length-take-le}
 use Rattle.std.proofs.lemmas.Slice.{take-put_mid_below}
 use Rattle.std.specs.Io.KnownBytes.{Consumes}
 use Rattle.std.proofs.KnownBytes.{Consumes-trans}
@@ -19,7 +20,8 @@ part_front : (a k n : ℕ) (xs ys : List ℕ) → a ≤ length xs → n ≤ leng
 part_front a k n xs ys within fits =
     let same : (a + n) - a ≡ n = omega arith in
     let after = post_of a k xs in
-    ap (take ((a + n) - a)) (drop_at (take a xs) (ys ++ after) a (length-take-le a xs within)) ∙ ap (λ m. take m (ys ++ after)) same ∙ take-append-le n ys after fits
+    ap (take ((a + n) - a)) (drop_at (take a xs) (ys ++ after) a (length-take-le a xs within)) ∙ ap (λ m. take m (ys ++ after)) same
+    ∙ take-append-le n ys after fits
 
 pub loop-length-preserved : goal.loop-length-preserved
 loop-length-preserved g c =
@@ -27,7 +29,8 @@ loop-length-preserved g c =
     let room = length c.loop-length.bytes - from in
     let within = c.loop-length.invariant.0 in
     let part = part_front from room c.in-Ok.more c.loop-length.bytes c.read.new.buf within c.in-Ok.ensures.bound.0 in
-    let joined = take_split from (from + c.in-Ok.more) c.loop-length.bytes (put_mid from room c.loop-length.bytes c.read.new.buf) (omega arith) (take-put_mid_below _ _ _ _ _ (le_refl _) within) in (
+    let joined = take_split from (from + c.in-Ok.more) c.loop-length.bytes (put_mid from room c.loop-length.bytes c.read.new.buf)
+    (omega arith) (take-put_mid_below _ _ _ _ _ (le_refl _) within) in (
       search rules,
       search rules,
       subst (Consumes _ _) (ap (λ l. take from c.loop-length.bytes ++ l) (sym part) ∙ joined)

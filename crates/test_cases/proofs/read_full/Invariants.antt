@@ -1,4 +1,5 @@
--- What was read so far is within the buffer, which keeps its length. A turn that goes on has read something, so the room that is left falls.
+-- What was read so far is within the buffer, which keeps its length. A turn that goes on has read something, so the room that is left
+-- falls.
 use Rattle.std.proofs.Common.{length, ◌-◌, ◌≡◌, ◌≤◌}
 use Rattle.test_cases.proofs.read_full.Given as goal
 

@@ -9,7 +9,8 @@ use Rattle.std.proofs.Math.ListN.{length}
 use Rattle.apportionment.specs.Limits.{house_limit}
 use Rattle.apportionment.specs.Refusals.{accepted}
 use Rattle.apportionment.specs.Text.{bytes_of}
-use Rattle.apportionment.specs.Quantities.{is_below, size_of, shown_scale, shown_size, shown_of, shown_text, departure_text, mark_for, mark_text}
+use Rattle.apportionment.specs.Quantities.{is_below, size_of, shown_scale, shown_size, shown_of, shown_text, departure_text, mark_for}
+use Rattle.apportionment.specs.Quantities.{mark_text}
 use Rattle.apportionment.specs.inner.Tests.{cond_both}
 use Rattle.apportionment.specs.inner.Quantities.{largest_above, largest_below}
 use Rattle.departure.specs.declared.Answer.{Answer}

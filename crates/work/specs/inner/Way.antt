@@ -164,7 +164,8 @@ module _ {rows : List ℕ} {start : Placing} {P : ℕ} (begun : Begun rows start
   pub start_shown : Showable rows start P
   start_shown = on_the_way_shown 0 begun.first (omega arith)
 
-  pub step_shown : {p q : Placing} (m : ℕ) → p ≡ on_the_way start m → q ≡ on_the_way start (m + 1) → m < way_of start → ShowableStep rows p q P
+  pub step_shown : {p q : Placing} (m : ℕ) → p ≡ on_the_way start m → q ≡ on_the_way start (m + 1) → m < way_of start
+      → ShowableStep rows p q P
   step_shown m is then left =
       rw (is, then, begun.summed) (way_step (people_of start) start.house begun.opens m left rows begun.named)
 

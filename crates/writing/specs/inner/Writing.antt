@@ -2,7 +2,8 @@
 -- finished text has left in the buffer.
 -- Assumes nothing.
 use Rattle.std.specs.Prelude.{◌≡◌, refl, List, [], ◌∷◌, ◌++◌, ℕ, suc, ◌+◌, ◌-◌, ◌<◌, ◌≤◌, min, leb, length, take, drop, set, get_or}
-use Rattle.std.proofs.Common.{sym, ap, ◌∙◌, add-zero, zero-add, add-one, arith, leb-true, leb-false, length-append, take-append-drop, take_at, take-suc, length-take-le}
+use Rattle.std.proofs.Common.{sym, ap, ◌∙◌, add-zero, zero-add, add-one, arith, leb-true, leb-false, length-append, take-append-drop}
+use Rattle.std.proofs.Common.{take_at, take-suc, length-take-le}
 use Rattle.std.proofs.lemmas.List.Edits.{sets, sets-eq}
 use Rattle.std.proofs.Math.Seq.{length-sets, set_out}
 use Rattle.apportionment.specs.inner.Tests.{either_way}

@@ -19,7 +19,8 @@ returns-then-house-seats c =
 
 pub loop-i-preserved : goal.loop-i-preserved
 loop-i-preserved c =
-    c.loop-i.invariant ∙ within_next _ _ _ c.loop-i-test.true (within_true _ _ (pos_of_ne-zero c.if-seats-i-eq0.false, c.if-house-seats.false))
+    c.loop-i.invariant ∙ within_next _ _ _ c.loop-i-test.true
+    (within_true _ _ (pos_of_ne-zero c.if-seats-i-eq0.false, c.if-house-seats.false))
 
 pub returns : goal.returns
 returns c = sym (c.loop-i.invariant ∙ within_end _ _ _ c.loop-i-test.false)

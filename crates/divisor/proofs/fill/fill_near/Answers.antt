@@ -9,10 +9,10 @@ returns-then-near c =
 
 pub fill_rounded-requires : goal.fill_rounded-requires
 fill_rounded-requires c = (
-      c.requires.problem.states,
-      filled_length c.fill_rounded-given.ensures,
-      omega (arith, c.requires.problem.house_within, c.aim_of-aim.ensures),
-    )
+  c.requires.problem.states,
+  filled_length c.fill_rounded-given.ensures,
+  omega (arith, c.requires.problem.house_within, c.aim_of-aim.ensures),
+)
 
 pub returns : goal.returns
 returns c =

@@ -23,9 +23,9 @@ bounds-seats-place-2 c =
 
 pub replay-requires : goal.replay-requires
 replay-requires c = (
-      rw (root_moved c.requires c.moved.ensures) c.requires.after,
-      root_replays c.requires c.moved.result,
-    )
+  rw (root_moved c.requires c.moved.ensures) c.requires.after,
+  root_replays c.requires c.moved.result,
+)
 
 pub returns : goal.returns
 returns c =

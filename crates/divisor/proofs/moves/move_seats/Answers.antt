@@ -21,9 +21,9 @@ loop-done-smaller c =
 
 pub loop-done-preserved : goal.loop-done-preserved
 loop-done-preserved c = (
-      omega (arith, c.loop-done-test.true),
-      moving_more c.loop-done.invariant.1 c.move_one.ensures,
-    )
+  omega (arith, c.loop-done-test.true),
+  moving_more c.loop-done.invariant.1 c.move_one.ensures,
+)
 
 pub shape_of-seats : goal.shape_of-seats
 shape_of-seats c =

@@ -25,7 +25,8 @@ pub overflow_cast-v : goal.overflow_cast-v
 overflow_cast-v c = omega (arith, (digits (goal.at.overflow_cast-v c).In-loop-i).each c.loop-i.i (omega arith))
 
 pub overflow_add-v : goal.overflow_add-v
-overflow_add-v c = omega (arith, small (goal.at.overflow_add-v c).In-loop-i, (digits (goal.at.overflow_add-v c).In-loop-i).each c.loop-i.i (omega arith))
+overflow_add-v c = omega
+    (arith, small (goal.at.overflow_add-v c).In-loop-i, (digits (goal.at.overflow_add-v c).In-loop-i).each c.loop-i.i (omega arith))
 
 pub loop-i-preserved : goal.loop-i-preserved
 loop-i-preserved c = (

@@ -25,7 +25,8 @@ abbrev later : At-loop-number → Named
 later c = first_named (field c) (drop (c.loop-number.number + 1) methods)
 
 -- A turn compares the field with the word of the method reached.
-turn : (c : After-same) → method_named (field (goal.at.After-same c).At-loop-number) ≡ cond c.same.result (Known c.at-method.result) (later (goal.at.After-same c).At-loop-number)
+turn : (c : After-same) → method_named (field (goal.at.After-same c).At-loop-number)
+    ≡ cond c.same.result (Known c.at-method.result) (later (goal.at.After-same c).At-loop-number)
 turn c = rw (c.same.ensures, c.word.ensures, c.at-method.ensures)
     (c.loop-number.invariant.1 ∙ named_from (field (goal.at.After-same c).At-loop-number) c.loop-number.number (omega arith))
 

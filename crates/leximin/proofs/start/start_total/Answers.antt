@@ -2,7 +2,6 @@ use borrow.Author.Rules.{rules}
 use native.Mathlib.Omega.{arith}
 use native.Mathlib.Nat.{zero-add}
 use Rattle.apportionment.specs.Leximin.{start_total}
-use Rattle.apportionment.specs.Lists
 use Rattle.sizes.specs.inner.Sizes.{state_at}
 use Rattle.leximin.specs.inner.Start.{start_sum_next, start_sum_end, start_total_fits}
 use Rattle.leximin.proofs.start.start_total.Goals as goal

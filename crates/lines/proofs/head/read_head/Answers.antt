@@ -38,10 +38,13 @@ count-is c = c.fields_from-count.ensures
 formed : (c : After-is_head) → c.is_head.result ≡ is_head (bytes (goal.at.After-is_head c).After-fields_from-count)
 unfolding is_head
 formed c = c.is_head.ensures
-    ∙ same_head c.is_ended.ensures (word-is (goal.at.After-is_head c).After-fields_from-count) (method-is (goal.at.After-is_head c).After-fields_from-count) (house-is (goal.at.After-is_head c).After-fields_from-count) (count-is (goal.at.After-is_head c).After-fields_from-count)
+    ∙ same_head c.is_ended.ensures (word-is (goal.at.After-is_head c).After-fields_from-count)
+    (method-is (goal.at.After-is_head c).After-fields_from-count) (house-is (goal.at.After-is_head c).After-fields_from-count)
+    (count-is (goal.at.After-is_head c).After-fields_from-count)
 
 pub returns-then-not-is_head : goal.returns-then-not-is_head
-returns-then-not-is_head c = c.refused.ensures ∙ simp (head_by_parts, sym (formed (goal.at.returns-then-not-is_head c).After-is_head) ∙ c.if-not-is_head.true)
+returns-then-not-is_head c =
+    c.refused.ensures ∙ simp (head_by_parts, sym (formed (goal.at.returns-then-not-is_head c).After-is_head) ∙ c.if-not-is_head.true)
 
 pub value-requires : goal.value-requires
 value-requires c =

@@ -29,7 +29,8 @@ formed : (c : After-is_pair) → c.is_pair.result ≡ is_closing_line (bytes (go
 unfolding is_closing_line
 formed c = c.is_pair.ensures
     ∙ same_pair c.is_ended.ensures
-    (c.same.ensures ∙ ap (λ word. same_list word (bytes_of "total")) (word-is (goal.at.After-is_pair c).After-fields_from-digits)) (digits_are (goal.at.After-is_pair c).After-fields_from-digits)
+    (c.same.ensures ∙ ap (λ word. same_list word (bytes_of "total")) (word-is (goal.at.After-is_pair c).After-fields_from-digits))
+    (digits_are (goal.at.After-is_pair c).After-fields_from-digits)
 
 -- Where the total is known the line was cut.
 abbrev cut : After-value-total → After-fields_from-digits
@@ -45,7 +46,8 @@ returns-then-not-is_pair c = simp (sym (formed (goal.at.returns-then-not-is_pair
 
 pub value-total-requires : goal.value-total-requires
 value-total-requires c =
-    rw (digits_are (goal.at.value-total-requires c).After-fields_from-digits) (closing_number _ (sym (formed (goal.at.value-total-requires c).After-is_pair) ∙ c.if-not-is_pair.false))
+    rw (digits_are (goal.at.value-total-requires c).After-fields_from-digits)
+    (closing_number _ (sym (formed (goal.at.value-total-requires c).After-is_pair) ∙ c.if-not-is_pair.false))
 
 pub returns-then-outside : goal.returns-then-outside
 unfolding closing_refusal first_refusal

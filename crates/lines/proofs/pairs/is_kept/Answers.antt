@@ -53,12 +53,19 @@ is_name_there-requires c =
     (kept_printed inv.0 _ (omega arith), inv.1)
 
 pub returns-then-is_name_there : goal.returns-then-is_name_there
-returns-then-is_name_there c = sym (used_on _ _ _ c.loop-i.i (omega arith) (answer-is (goal.at.returns-then-is_name_there c).After-is_name_there ∙ c.if-is_name_there.true))
+returns-then-is_name_there c =
+    sym (used_on _ _ _ c.loop-i.i (omega arith)
+    (answer-is (goal.at.returns-then-is_name_there c).After-is_name_there ∙ c.if-is_name_there.true))
 
 pub loop-i-preserved : goal.loop-i-preserved
 loop-i-preserved c =
-    let inv = c.loop-i.invariant in
-    (inv.0, inv.1, omega arith, below_more (λ j. same_list (name_on j _) _ ≡ false) _ inv.3 (answer-is (goal.at.loop-i-preserved c).After-is_name_there ∙ c.if-is_name_there.false))
+    let inv = c.loop-i.invariant in (
+      inv.0,
+      inv.1,
+      omega arith,
+      below_more (λ j. same_list (name_on j _) _ ≡ false) _ inv.3
+          (answer-is (goal.at.loop-i-preserved c).After-is_name_there ∙ c.if-is_name_there.false),
+    )
 
 pub returns : goal.returns
 returns c = sym (used_on_none _ _ _ (λ j below. c.loop-i.invariant.3 j (omega arith)))

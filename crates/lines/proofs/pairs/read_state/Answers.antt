@@ -10,7 +10,8 @@ use Rattle.lines.specs.inner.Lines.{entry_refusal, state_parts, same_pair}
 use Rattle.lines.specs.inner.Fingerprints.{fingerprint_of, field_end, field_plain, field_print}
 use Rattle.lines.specs.inner.Cut.{line_refused, line_by_parts, line_ill_formed_lem, line_refused_lem, line_accepted}
 use Rattle.lines.proofs.pairs.read_state.Goals as goal
-use Rattle.lines.proofs.pairs.read_state.Goals.{After-entry_refusal-refusal, After-fields_from-digits, After-is_pair, After-value-population}
+use Rattle.lines.proofs.pairs.read_state.Goals.{After-entry_refusal-refusal, After-fields_from-digits, After-is_pair}
+use Rattle.lines.proofs.pairs.read_state.Goals.{After-value-population}
 
 -- The bytes from the line on.
 abbrev bytes : After-fields_from-digits → List ℕ
@@ -33,7 +34,8 @@ print-is c =
 formed : (c : After-is_pair) → c.is_pair.result ≡ is_state_line (bytes (goal.at.After-is_pair c).After-fields_from-digits)
 unfolding is_state_line
 formed c = c.is_pair.ensures
-    ∙ same_pair c.is_ended.ensures (c.is_name.ensures ∙ ap is_name (name-is (goal.at.After-is_pair c).After-fields_from-digits)) (digits_are (goal.at.After-is_pair c).After-fields_from-digits)
+    ∙ same_pair c.is_ended.ensures (c.is_name.ensures ∙ ap is_name (name-is (goal.at.After-is_pair c).After-fields_from-digits))
+    (digits_are (goal.at.After-is_pair c).After-fields_from-digits)
 
 -- What was cut, from where the population is known.
 abbrev cut : After-value-population → After-fields_from-digits
@@ -49,11 +51,13 @@ refusal-at c =
     let a = c.args in
     entry_refusal (used_in a.k a.first.now (name_at a.s.now)) a.sum (number_at a.s.now)
 
-refusal_is : (c : After-entry_refusal-refusal) → c.entry_refusal-refusal.result ≡ refusal-at (goal.at.After-entry_refusal-refusal c).After-value-population
+refusal_is : (c : After-entry_refusal-refusal) → c.entry_refusal-refusal.result
+    ≡ refusal-at (goal.at.After-entry_refusal-refusal c).After-value-population
 refusal_is c = let a = c.args in
     c.entry_refusal-refusal.ensures
     ∙ ap₂ (λ used p. entry_refusal used a.sum p)
-    (c.is_used-used.ensures ∙ ap (used_in a.k a.first.now) (name-is (cut (goal.at.After-entry_refusal-refusal c).After-value-population))) (population-is (goal.at.After-entry_refusal-refusal c).After-value-population)
+    (c.is_used-used.ensures ∙ ap (used_in a.k a.first.now) (name-is (cut (goal.at.After-entry_refusal-refusal c).After-value-population)))
+    (population-is (goal.at.After-entry_refusal-refusal c).After-value-population)
 
 pub field_to-name-requires : goal.field_to-name-requires
 field_to-name-requires c = ap (λ f. f.end) c.read_field-field.ensures ∙ field_end _
@@ -69,11 +73,13 @@ is_name-requires c =
 
 pub returns-then-not-is_pair : goal.returns-then-not-is_pair
 returns-then-not-is_pair c =
-    c.refused.ensures ∙ sym (line_ill_formed_lem _ _ _ _ (sym (formed (goal.at.returns-then-not-is_pair c).After-is_pair) ∙ c.if-not-is_pair.true))
+    c.refused.ensures ∙ sym
+    (line_ill_formed_lem _ _ _ _ (sym (formed (goal.at.returns-then-not-is_pair c).After-is_pair) ∙ c.if-not-is_pair.true))
 
 pub value-population-requires : goal.value-population-requires
 value-population-requires c =
-    rw (digits_are (goal.at.value-population-requires c).After-fields_from-digits) (state_parts _ (sym (formed (goal.at.value-population-requires c).After-is_pair) ∙ c.if-not-is_pair.false)).1
+    rw (digits_are (goal.at.value-population-requires c).After-fields_from-digits)
+    (state_parts _ (sym (formed (goal.at.value-population-requires c).After-is_pair) ∙ c.if-not-is_pair.false)).1
 
 pub is_used-used-requires : goal.is_used-used-requires
 is_used-used-requires c =
@@ -96,6 +102,8 @@ returns-then-refusal-ne0 c =
 
 pub returns : goal.returns
 returns c =
-    line_by_parts _ _ (population-is (goal.at.returns c).After-value-population) (print-is (cut (goal.at.returns c).After-value-population)) (name-is (cut (goal.at.returns c).After-value-population))
+    line_by_parts _ _ (population-is (goal.at.returns c).After-value-population)
+    (print-is (cut (goal.at.returns c).After-value-population)) (name-is (cut (goal.at.returns c).After-value-population))
     c.line_end-end.ensures
-    ∙ sym (line_accepted _ _ _ _ (formed-there (goal.at.returns c).After-value-population) (sym (refusal_is (goal.at.returns c).After-entry_refusal-refusal) ∙ c.if-refusal-ne0.false))
+    ∙ sym (line_accepted _ _ _ _ (formed-there (goal.at.returns c).After-value-population)
+    (sym (refusal_is (goal.at.returns c).After-entry_refusal-refusal) ∙ c.if-refusal-ne0.false))

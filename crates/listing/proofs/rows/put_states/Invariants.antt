@@ -9,7 +9,8 @@ use Rattle.listing.proofs.rows.put_states.Given as goal
 
 abbrev pub invariant-loop-k : goal.invariant-loop-k
 invariant-loop-k l =
-    (l.k ≤ length l.populations) × Wrote l.initial.out l.at (state_lines (name_in_row l.rows) l.populations l.seats l.total l.house l.k) l.out l.next
+    (l.k ≤ length l.populations)
+    × Wrote l.initial.out l.at (state_lines (name_in_row l.rows) l.populations l.seats l.total l.house l.k) l.out l.next
 
 abbrev pub decreases-loop-k : goal.decreases-loop-k
 decreases-loop-k l = length l.populations - l.k

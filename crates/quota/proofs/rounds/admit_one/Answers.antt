@@ -42,4 +42,9 @@ set_key-requires-2 c =
     (c.requires.key_played, omega (arith, entries_root_lt c.requires, c.requires.keys_long))
 
 pub returns : goal.returns
-returns c = record { one_admitted = record { outer = c.set_key.ensures.keys_after; key = c.set_key-2.ensures.keys_after ∙ rw c.key_of-key.ensures }; played = (c.set_key.ensures.played, c.set_key-2.ensures.played) }
+returns c = record {
+  one_admitted = record
+      { outer = c.set_key.ensures.keys_after; key = c.set_key-2.ensures.keys_after ∙ rw c.key_of-key.ensures };
+  played =
+      (c.set_key.ensures.played, c.set_key-2.ensures.played);
+}

@@ -24,7 +24,11 @@ overflow_add-queue c =
     omega (arith, queue_fits c.requires.problem c.requires.ready c.loop-passed.invariant c.loop-passed-test.true)
 
 pub serve_one-waiting-requires : goal.serve_one-waiting-requires
-serve_one-waiting-requires c = record { turn = next_turn c.requires.problem c.requires.ready c.loop-passed.invariant c.loop-passed-test.true; owed = next_owed c.requires.problem c.requires.ready c.loop-passed.invariant c.loop-passed-test.true }
+serve_one-waiting-requires c =
+    record {
+      turn = next_turn c.requires.problem c.requires.ready c.loop-passed.invariant c.loop-passed-test.true;
+      owed = next_owed c.requires.problem c.requires.ready c.loop-passed.invariant c.loop-passed-test.true;
+    }
 
 pub overflow_add-passed : goal.overflow_add-passed
 overflow_add-passed c =

@@ -2,7 +2,7 @@ use mathlib.Core.Path.{◌∙◌, sym}
 use native.Mathlib.Omega.{arith}
 use Rattle.apportionment.specs.inner.Filling.{fill_starts, fill_goes_on, fill_ends}
 use Rattle.quota.specs.inner.Marks.{wholes_long}
-use Rattle.quota.specs.inner.Play.{outer_of, entry_fits, outer_is}
+use Rattle.quota.specs.inner.Play.{entry_fits, outer_is}
 use Rattle.quota.proofs.start.fill_outers.Goals as goal
 
 pub loop-i-init : goal.loop-i-init

@@ -2,7 +2,7 @@
 use mathlib.Core.Path.{◌∙◌}
 use borrow.Author.Tests.{eq-eqb, ne_eqb}
 use lib.ListN.{length}
-use Rattle.register.specs.Register.{closing_of, end_of, refused}
+use Rattle.register.specs.Register.{closing_of, end_of}
 use native.Mathlib.Omega.{arith}
 use Rattle.register.proofs.states.close.Goals as goal
 

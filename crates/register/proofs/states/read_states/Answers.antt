@@ -28,29 +28,36 @@ refusal_is c = ap (λ r. r.refusal) c.read_state-line.ensures ∙ line_refusal _
 
 good :
     (c : Else-refusal-ne0)
-    → let l = c.loop-k in state_refusal (all_lines (goal.at.Else-refusal-ne0 c).After-read_state-line) l.k l.sum (left (goal.at.Else-refusal-ne0 c).After-read_state-line) ≡ accepted
+    → let l = c.loop-k in
+    state_refusal (all_lines (goal.at.Else-refusal-ne0 c).After-read_state-line) l.k l.sum
+    (left (goal.at.Else-refusal-ne0 c).After-read_state-line) ≡ accepted
 good c = sym (refusal_is (goal.at.Else-refusal-ne0 c).After-read_state-line) ∙ c.if-refusal-ne0.false
 
 line-is : (c : Else-refusal-ne0) → c.read_state-line.result ≡ line_read (left (goal.at.Else-refusal-ne0 c).After-read_state-line)
 line-is c = c.read_state-line.ensures ∙ line_read_lem _ _ _ _ (good c)
 
-population-is : (c : Else-refusal-ne0) → c.read_state-line.result.population ≡ number_at (left (goal.at.Else-refusal-ne0 c).After-read_state-line)
+population-is : (c : Else-refusal-ne0) → c.read_state-line.result.population
+    ≡ number_at (left (goal.at.Else-refusal-ne0 c).After-read_state-line)
 unfolding line_read
 population-is c = ap (λ r. r.population) (line-is c)
 
-width_is : (c : Else-refusal-ne0) → c.read_state-line.result.width ≡ length (name_at (left (goal.at.Else-refusal-ne0 c).After-read_state-line))
+width_is : (c : Else-refusal-ne0) → c.read_state-line.result.width
+    ≡ length (name_at (left (goal.at.Else-refusal-ne0 c).After-read_state-line))
 unfolding line_read
 width_is c = ap (λ r. r.width) (line-is c)
 
 line-sound :
     (c : Else-refusal-ne0)
-    → let l = c.loop-k in StateSound (all_lines (goal.at.Else-refusal-ne0 c).After-read_state-line) l.k l.sum (left (goal.at.Else-refusal-ne0 c).After-read_state-line)
+    → let l = c.loop-k in
+    StateSound (all_lines (goal.at.Else-refusal-ne0 c).After-read_state-line) l.k l.sum
+    (left (goal.at.Else-refusal-ne0 c).After-read_state-line)
 line-sound c = state_sound _ _ _ _ (good c)
 
 -- The name of the turn's line ends within the register, whose places fit 32 bits.
 place-fits :
     (c : Else-refusal-ne0)
-    → length (all_lines (goal.at.Else-refusal-ne0 c).After-read_state-line) - length (left (goal.at.Else-refusal-ne0 c).After-read_state-line) + c.read_state-line.result.width ≤ register_limit
+    → length (all_lines (goal.at.Else-refusal-ne0 c).After-read_state-line) - length
+    (left (goal.at.Else-refusal-ne0 c).After-read_state-line) + c.read_state-line.result.width ≤ register_limit
 place-fits c = omega (arith, c.requires.1, width_is c, next_fits _ _ (kept_end c.loop-k.invariant.3))
 
 -- The two lists keep their lengths.
@@ -86,11 +93,13 @@ shape_of-ends-then-refusal-ne0 c = c.loop-k.invariant.3.names.places.room.1 ∙ 
 pub returns-then-refusal-ne0 : goal.returns-then-refusal-ne0
 unfolding refused
 returns-then-refusal-ne0 c =
-    let is = c.refused.ensures ∙ ap (λ r. refused r (c.loop-k.k + 2)) (refusal_is (goal.at.returns-then-refusal-ne0 c).After-read_state-line) in record {
+    let is = c.refused.ensures
+    ∙ ap (λ r. refused r (c.loop-k.k + 2)) (refusal_is (goal.at.returns-then-refusal-ne0 c).After-read_state-line) in record {
       reading = is
           ∙ sym
           (c.loop-k.invariant.4
-          ∙ states_refused _ _ _ _ _ _ _ (omega arith) (λ none. c.if-refusal-ne0.true (refusal_is (goal.at.returns-then-refusal-ne0 c).After-read_state-line ∙ none)));
+          ∙ states_refused _ _ _ _ _ _ _ (omega arith)
+          (λ none. c.if-refusal-ne0.true (refusal_is (goal.at.returns-then-refusal-ne0 c).After-read_state-line ∙ none)));
       placed = λ none. absurd (c.if-refusal-ne0.true (sym (ap (λ r. r.refusal) c.refused.ensures) ∙ none));
     }
 
@@ -133,7 +142,12 @@ bounds-ends-k c =
     omega (arith, c.loop-k.invariant.0, c.loop-k.invariant.3.names.places.room.1)
 
 pub overflow_add-sum : goal.overflow_add-sum
-overflow_add-sum c = omega (arith, population-is (goal.at.overflow_add-sum c).Else-refusal-ne0, (line-sound (goal.at.overflow_add-sum c).Else-refusal-ne0).fits)
+overflow_add-sum c =
+    omega (
+      arith,
+      population-is (goal.at.overflow_add-sum c).Else-refusal-ne0,
+      (line-sound (goal.at.overflow_add-sum c).Else-refusal-ne0).fits,
+    )
 
 pub overflow_add-k-in-loop-k : goal.overflow_add-k-in-loop-k
 overflow_add-k-in-loop-k c = omega (arith, c.loop-k.invariant.0)
@@ -150,12 +164,18 @@ unfolding line_read
 loop-k-preserved c = (
   c.loop-k.invariant.0,
   omega arith,
-  omega (arith, population-is (goal.at.loop-k-preserved c).Else-refusal-ne0, (line-sound (goal.at.loop-k-preserved c).Else-refusal-ne0).fits),
+  omega (
+    arith,
+    population-is (goal.at.loop-k-preserved c).Else-refusal-ne0,
+    (line-sound (goal.at.loop-k-preserved c).Else-refusal-ne0).fits,
+  ),
   kept_more _ _ _ _ _ _ _ _ _ c.loop-k.invariant.3 (omega (arith, c.loop-k.invariant.0)) c.rest_from-u.ensures
       (ap (λ r. r.print) (line-is (goal.at.loop-k-preserved c).Else-refusal-ne0)) (width_is (goal.at.loop-k-preserved c).Else-refusal-ne0),
   c.loop-k.invariant.4
-      ∙ states_passed _ _ _ (c.args.head.states - (c.loop-k.k + 1)) _ _ _ _ (omega arith) (good (goal.at.loop-k-preserved c).Else-refusal-ne0)
-      ∙ same_left _ _ _ _ _ c.loop-k.populations (sym (population-is (goal.at.loop-k-preserved c).Else-refusal-ne0)) (sym c.rest_from-u.ensures),
+      ∙ states_passed _ _ _ (c.args.head.states - (c.loop-k.k + 1)) _ _ _ _ (omega arith)
+      (good (goal.at.loop-k-preserved c).Else-refusal-ne0)
+      ∙ same_left _ _ _ _ _ c.loop-k.populations (sym (population-is (goal.at.loop-k-preserved c).Else-refusal-ne0))
+      (sym c.rest_from-u.ensures),
 )
 
 pub close-requires : goal.close-requires
@@ -169,4 +189,8 @@ shape_of-ends c = ends-kept (goal.at.shape_of-ends c).At-loop-k
 
 pub returns : goal.returns
 returns c =
-    let all : c.loop-k.k ≡ c.args.head.states = omega arith in record { reading = c.close.ensures ∙ sym (c.loop-k.invariant.4 ∙ states_none _ _ _ _ _ _ _ (omega arith)); placed = λ none. rw all at c.loop-k.invariant.3.names.places }
+    let all : c.loop-k.k ≡ c.args.head.states = omega arith in
+    record {
+      reading = c.close.ensures ∙ sym (c.loop-k.invariant.4 ∙ states_none _ _ _ _ _ _ _ (omega arith));
+      placed = λ none. rw all at c.loop-k.invariant.3.names.places;
+    }
