@@ -1,5 +1,6 @@
 -- Document 01, "The register" and "Operations": the methods in their order, their words, and their numbers in the C interface.
-use Rattle.apportionment.specs.Words.{List, [], ◌∷◌, ℕ, ◌-◌, length, get_or, Method, Leximin, Adams, Dean, Hill, Webster, Jefferson}
+use Rattle.std.specs.Prelude.{◌∷◌, ◌-◌}
+use Rattle.apportionment.specs.Words.{List, [], ℕ, length, get_or, Method, Leximin, Adams, Dean, Hill, Webster, Jefferson}
 use Rattle.apportionment.specs.Words.{Remainders, Quota}
 use Rattle.apportionment.specs.Text.{bytes_of}
 

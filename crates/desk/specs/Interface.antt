@@ -1,5 +1,6 @@
 -- What the C interface hands back: the same values field for field, a method or a mark as its number in document 01's order.
-use Rattle.apportionment.specs.Words.{ℕ, Option, Option·getD, ℤ, pos, cond, List, ltb, ◌-◌, eqb, length}
+use Rattle.std.specs.Prelude.{◌-◌}
+use Rattle.apportionment.specs.Words.{ℕ, Option, Option·getD, ℤ, pos, cond, List, ltb, eqb, length}
 use Rattle.apportionment.specs.declared.Mark.TheVariants.{In, High, Over, None}
 use Rattle.apportionment.specs.{Allotment.allot_refusal, Allotment.seats_after, Allotment.steps_after, Methods.method_number}
 use Rattle.apportionment.specs.{Methods.last_method, Methods.method_at, Refusals.method_unknown, Refusals.accepted, declared.Mark.Mark}
