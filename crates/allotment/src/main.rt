@@ -11,7 +11,7 @@ fn print_listing(rt: &(impl Print + Eprint), register: &[u8]) {
 
 fn main(rt: HostRuntime) {
     let mut register = [0u8; streams::REGISTER_ROOM];
-    let input = streams::read_register(&rt, "usage: allotment [REGISTER]\n", &mut register);
+    let input = streams::read_register(&rt, b"usage: allotment [REGISTER]\n", &mut register);
     if input.whole {
         print_listing(&rt, &register[..input.length]);
     }

@@ -155,14 +155,15 @@ fn has_argument(rt: &impl Env, argument: usize) -> bool {
 // more arguments it reads nothing and tells the usage.
 pub fn read_register(
     rt: &(impl Env + Files + io::Input + Eprint),
-    usage: &str,
+    usage: &[u8],
     bytes: &mut [u8],
 ) -> Input
     ensures { IsPrefixLen result.length bytes.new }
 {
     let arguments = argument_count(rt);
     if 2 < arguments {
-        let _ = rt.eprint(usage);
+        // What is told is text; every usage is.
+        let _ = rt.eprint(str::from_utf8(usage).unwrap_or(""));
         return Input {
             whole: false,
             length: 0,

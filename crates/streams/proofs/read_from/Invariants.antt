@@ -1,6 +1,5 @@
--- What was read so far stands at the front of the buffer, which keeps its length. A turn that goes on has read something, so the room that
--- is
--- left falls.
+-- What was read so far stands at the front of the buffer, which keeps its length. A turn that goes on has read something, so the room
+-- that is left falls.
 use Rattle.std.proofs.Common.{◌≡◌, ◌-◌, ◌≤◌, length, take}
 use Rattle.std.specs.Io.KnownBytes.{Consumes}
 use Rattle.streams.proofs.read_from.Given as goal
