@@ -1,6 +1,5 @@
 -- What allotting hands back and leaves in the lent list: one outcome for each input, by the definitions of `apportionment`.
-use Rattle.std.specs.Prelude.{◌≡◌}
-use Rattle.apportionment.specs.Words.{List, ℕ, length}
+use Rattle.std.specs.Prelude.{◌≡◌, List, ℕ, length}
 use Rattle.apportionment.specs.{Allotment.allot_refusal, Allotment.seats_after, Allotment.steps_after, declared.Method.Method}
 use Rattle.allot.specs.declared.Allotted.{Allotted}
 

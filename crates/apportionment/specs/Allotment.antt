@@ -1,7 +1,6 @@
 -- Document 01, "Operations": the checks of allotting and of opening in their order, and what allotting gives.
-use Rattle.std.specs.Prelude.{◌&&◌, ◌∷◌, ◌++◌}
-use Rattle.apportionment.specs.Words.{Bool, true, false, cond, not, List, [], ℕ, ltb, eqb, length, DivisorMethod}
-use Rattle.apportionment.specs.Words.{Method, Leximin, Adams, Dean, Hill, Webster, Jefferson, Remainders, Quota}
+use Rattle.std.specs.Prelude.{◌&&◌, ◌∷◌, ◌++◌, Bool, true, false, cond, not, List, [], ℕ, ltb, eqb, length}
+use Rattle.apportionment.specs.Words.{DivisorMethod, Method, Leximin, Adams, Dean, Hill, Webster, Jefferson, Remainders, Quota}
 use Rattle.apportionment.specs.Refusals.{accepted, states_out_of_limits, house_out_of_limits, population_zero, sum_too_large}
 use Rattle.apportionment.specs.Refusals.{seat_list_length}
 use Rattle.apportionment.specs.Refusals.{house_below_states, outside, first_refusal}

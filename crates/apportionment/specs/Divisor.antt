@@ -1,7 +1,7 @@
 -- Document 01, "The other methods": a claim, its quotient p / d(a), the five signposts d, and claims met in order.
 -- A claim is kept as d(a) / p, the quotient turned over, so that a signpost of 0 needs no case; Hill's d is a root, so d(a)² / p².
-use Rattle.std.specs.Prelude.{◌+◌, ◌-◌, ◌*◌}
-use Rattle.apportionment.specs.Words.{Bool, List, ℕ, zero, suc, length, get_or, set, replicate, DivisorMethod}
+use Rattle.std.specs.Prelude.{◌+◌, ◌-◌, ◌*◌, Bool, List, ℕ, zero, suc, length, get_or, set, replicate}
+use Rattle.apportionment.specs.Words.{DivisorMethod}
 use Rattle.apportionment.specs.declared.DivisorMethod.TheVariants.{Adams, Dean, Hill, Webster, Jefferson}
 use Rattle.apportionment.specs.{Lists.first_place, Quantities.Fraction, Quantities.less}
 

@@ -1,6 +1,5 @@
 -- Document 01, "Leximin": an allotment's list, the order of lists, the leximin allotment for a total, and the start.
-use Rattle.std.specs.Prelude.{◌∷◌, ◌++◌, ◌+◌, ◌-◌}
-use Rattle.apportionment.specs.Words.{Bool, true, false, cond, List, [], map, ℕ, zero, suc, ltb, length}
+use Rattle.std.specs.Prelude.{◌∷◌, ◌++◌, ◌+◌, ◌-◌, Bool, true, false, cond, List, [], map, ℕ, zero, suc, ltb, length}
 use Rattle.apportionment.specs.{Lists.sum, Quantities.Fraction, Quantities.less, Quantities.distance, Quantities.size_of}
 
 unfoldable pub sizes_of : (P H : ℕ) → List ℕ → List ℕ → List Fraction  -- Each state's size of departure from P / H; P is the sum of ps.

@@ -1,5 +1,5 @@
 -- The limits of document 01, "Quantities" and "Operations", each named once.
-use Rattle.apportionment.specs.Words.{ℕ}
+use Rattle.std.specs.Prelude.{ℕ}
 
 abbrev pub state_limit : ℕ  -- The most states a register may have (n).
 state_limit = 800

@@ -1,6 +1,5 @@
 -- Words about lists of numbers that the other definitions share.
-use Rattle.std.specs.Prelude.{◌&&◌, ◌∷◌, ◌+◌}
-use Rattle.apportionment.specs.Words.{Bool, true, false, cond, List, [], ℕ, zero, suc, eqb}
+use Rattle.std.specs.Prelude.{◌&&◌, ◌∷◌, ◌+◌, Bool, true, false, cond, List, [], ℕ, zero, suc, eqb}
 
 unfoldable pub sum : List ℕ → ℕ  -- The sum of a list.
 sum [] = 0

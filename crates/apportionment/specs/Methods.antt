@@ -1,7 +1,6 @@
 -- Document 01, "The register" and "Operations": the methods in their order, their words, and their numbers in the C interface.
-use Rattle.std.specs.Prelude.{◌∷◌, ◌-◌}
-use Rattle.apportionment.specs.Words.{List, [], ℕ, length, get_or, Method, Leximin, Adams, Dean, Hill, Webster, Jefferson}
-use Rattle.apportionment.specs.Words.{Remainders, Quota}
+use Rattle.std.specs.Prelude.{◌∷◌, ◌-◌, List, [], ℕ, length, get_or}
+use Rattle.apportionment.specs.Words.{Method, Leximin, Adams, Dean, Hill, Webster, Jefferson, Remainders, Quota}
 use Rattle.apportionment.specs.Text.{bytes_of}
 
 abbrev pub methods : List Method  -- The methods, in document 01's order.

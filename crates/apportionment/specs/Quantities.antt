@@ -1,7 +1,6 @@
 -- Document 01, "Quantities": departures and sizes as exact fractions, what is shown of them, and marks.
-use Rattle.std.specs.Prelude.{◌++◌, ◌+◌, ◌-◌, ◌*◌, ◌/◌, ◌%◌}
-use Rattle.apportionment.specs.Words.{Bool, cond, List, ℕ, ltb, leb, eqb, ℤ, pos, negsuc, neg_ℤ, Mark}
-use Rattle.apportionment.specs.Words.{In, High, Over, None}
+use Rattle.std.specs.Prelude.{◌++◌, ◌+◌, ◌-◌, ◌*◌, ◌/◌, ◌%◌, Bool, cond, List, ℕ, ltb, leb, eqb, ℤ, pos, negsuc, neg_ℤ}
+use Rattle.apportionment.specs.Words.{Mark, In, High, Over, None}
 use Rattle.apportionment.specs.Text.{bytes_of, decimal, digit}
 
 pub record Fraction : Type 0 where  -- A fraction of two whole numbers, not reduced.

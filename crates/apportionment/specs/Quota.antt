@@ -1,6 +1,5 @@
 -- The quota method of Balinski and Young (W-201): seats are given one by one, each to a state able to have it. P is the sum of ps.
-use Rattle.std.specs.Prelude.{◌+◌, ◌-◌, ◌*◌, ◌/◌, ◌≤◌}
-use Rattle.apportionment.specs.Words.{Bool, List, ℕ, zero, suc, ltb, length, get_or, replicate}
+use Rattle.std.specs.Prelude.{◌+◌, ◌-◌, ◌*◌, ◌/◌, ◌≤◌, Bool, List, ℕ, zero, suc, ltb, length, get_or, replicate}
 use Rattle.apportionment.specs.{Lists.sum, Lists.among, Lists.first_place, Quantities.Fraction, Quantities.less, Divisor.one_more}
 
 unfoldable pub able : (ps : List ℕ) (h : ℕ) (seats : List ℕ) (i : ℕ) → Bool  -- A state may have the seat numbered h: a P < p h.

@@ -1,6 +1,5 @@
 -- Document 01, "Operations and their refusals": the refusal numbers, and checks in the order written.
-use Rattle.std.specs.Prelude.{◌∷◌}
-use Rattle.apportionment.specs.Words.{ℕ, Bool, false, cond, not, List, [], leb, eqb}
+use Rattle.std.specs.Prelude.{◌∷◌, ℕ, Bool, false, cond, not, List, [], leb, eqb}
 
 abbrev pub accepted : ℕ
 accepted = 0

@@ -1,6 +1,5 @@
 -- Largest remainders, by rank: document 01, "The other methods", with the order that the electoral act (W-202) sets for equal remainders.
-use Rattle.std.specs.Prelude.{◌+◌, ◌-◌, ◌*◌, ◌/◌, ◌%◌}
-use Rattle.apportionment.specs.Words.{Bool, true, false, cond, List, ℕ, ltb, length, get_or}
+use Rattle.std.specs.Prelude.{◌+◌, ◌-◌, ◌*◌, ◌/◌, ◌%◌, Bool, true, false, cond, List, ℕ, ltb, length, get_or}
 use Rattle.apportionment.specs.Lists.{sum, count_below, list_of}
 
 unfoldable pub whole_part : (ps : List ℕ) (H i : ℕ) → ℕ  -- The whole part of p H / P, and the remainder of p H by P.

@@ -1,8 +1,7 @@
 -- Text as bytes: words, and numbers in base ten.
 use Prim.Native.Char.{code}
 use Prim.Native.String.{String}
-use Rattle.std.specs.Prelude.{◌∷◌, ◌++◌, ◌+◌, ◌/◌, ◌%◌}
-use Rattle.apportionment.specs.Words.{cond, List, [], ℕ, zero, suc, ltb}
+use Rattle.std.specs.Prelude.{◌∷◌, ◌++◌, ◌+◌, ◌/◌, ◌%◌, cond, List, [], ℕ, zero, suc, ltb}
 
 abbrev pub bytes_of : String → List ℕ  -- The bytes of a word of plain ASCII.
 bytes_of String.[] = []

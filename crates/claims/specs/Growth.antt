@@ -1,6 +1,5 @@
 -- Growth without loss (W-212): what one seat more, or another poll, may do to the seats, and the methods that keep to it.
-use Rattle.std.specs.Prelude.{◌≡◌, ◌&&◌, ◌+◌, ◌<◌}
-use Rattle.apportionment.specs.Words.{Bool, true, false, List, ℕ, suc, ltb, length, get_or}
+use Rattle.std.specs.Prelude.{◌≡◌, ◌&&◌, ◌+◌, ◌<◌, Bool, true, false, List, ℕ, suc, ltb, length, get_or}
 use Rattle.apportionment.specs.Refusals.{accepted}
 use Rattle.apportionment.specs.declared.Method.TheVariants.{Leximin, Adams, Dean, Hill, Webster, Jefferson, Remainders, Quota}
 use Rattle.apportionment.specs.{Quantities.Fraction, Quantities.at_most, Allotment.allot_refusal, Allotment.seats_of}

@@ -1,6 +1,5 @@
 -- A register as it is written, where a state's line may have more after its population: its tail; and W-204, the clean form of a register.
-use Rattle.std.specs.Prelude.{◌∷◌, ◌++◌, ◌≡◌}
-use Rattle.apportionment.specs.Words.{List, [], ℕ, suc, length}
+use Rattle.std.specs.Prelude.{◌∷◌, ◌++◌, ◌≡◌, List, [], ℕ, suc, length}
 use Rattle.apportionment.specs.{Lists.sum, Text.bytes_of, Text.decimal, declared.Method.Method}
 use Rattle.register.specs.{Register.reading_of, Register.populations_in, Register.name_of, declared.Reading.Reading}
 use Rattle.text.specs.Shared.{head_line}

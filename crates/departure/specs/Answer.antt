@@ -1,6 +1,6 @@
 -- Document 01, "Operations and their refusals": the departure operation, each answer in the document's terms, and the promise.
-use Rattle.std.specs.Prelude.{◌≡◌, ◌∷◌}
-use Rattle.apportionment.specs.Words.{cond, [], Option, none, some, ℕ, eqb, ltb, ℤ}
+use Rattle.std.specs.Prelude.{◌≡◌, ◌∷◌, cond, [], ℕ, eqb, ltb, ℤ}
+use Rattle.apportionment.specs.Words.{Option, none, some}
 use Rattle.apportionment.specs.Refusals.{accepted, departure_out_of_limits, outside, first_refusal}
 use Rattle.apportionment.specs.Limits.{house_limit, sum_limit}
 use Rattle.apportionment.specs.{Quantities.shown_of, Quantities.mark_for, declared.Mark.Mark, declared.Mark.TheVariants.None}

@@ -1,6 +1,6 @@
 -- What the C interface hands back: the same values field for field, a method or a mark as its number in document 01's order.
-use Rattle.std.specs.Prelude.{◌-◌}
-use Rattle.apportionment.specs.Words.{ℕ, Option, Option·getD, ℤ, pos, cond, List, ltb, eqb, length}
+use Rattle.std.specs.Prelude.{◌-◌, ℕ, ℤ, pos, cond, List, ltb, eqb, length}
+use Rattle.apportionment.specs.Words.{Option, option_get_or}
 use Rattle.apportionment.specs.declared.Mark.TheVariants.{In, High, Over, None}
 use Rattle.apportionment.specs.{Allotment.allot_refusal, Allotment.seats_after, Allotment.steps_after, Methods.method_number}
 use Rattle.apportionment.specs.{Methods.last_method, Methods.method_at, Refusals.method_unknown, Refusals.accepted, declared.Mark.Mark}
@@ -27,7 +27,7 @@ exported_reading r =
 
 unfoldable pub exported_shown : (refusal : ℕ) → Option ℤ → Option Mark → DeskShown  -- Where there is none, 0 and the mark `none`.
 exported_shown refusal shown mark =
-    record { refusal = refusal; shown = Option·getD shown (pos 0); mark = mark_number (Option·getD mark None) }
+    record { refusal = refusal; shown = option_get_or shown (pos 0); mark = mark_number (option_get_or mark None) }
 
 unfoldable pub exported_departure : (p a P H : ℕ) → DeskShown
 exported_departure p a P H = exported_shown (departure_refusal p a P H) (departure_shown p a P H) (departure_mark p a P H)

@@ -1,7 +1,5 @@
 -- Document 01, "The register": parts of a run of bytes; what a line, a field, a number, a name and the word of a method are.
-use Rattle.std.specs.Prelude.{◌∷◌, ◌+◌, ◌-◌, ◌*◌}
-use Rattle.apportionment.specs.Words.{Bool, true, false, cond, List, [], ℕ, suc, ltb, leb, eqb, length, take, drop}
-use Rattle.apportionment.specs.Words.{get_or}
+use Rattle.std.specs.Prelude.{◌∷◌, ◌+◌, ◌-◌, ◌*◌, Bool, true, false, cond, List, [], ℕ, suc, ltb, leb, eqb, length, take, drop, get_or}
 use Rattle.apportionment.specs.{Lists.same_list, Methods.methods, Methods.method_text, Refusals.within, declared.Method.Method}
 use Rattle.fields.specs.{declared.Named.Named, declared.Named.TheVariants.Known, declared.Named.TheVariants.Unknown}
 

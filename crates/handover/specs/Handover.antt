@@ -1,6 +1,5 @@
 -- Document 01, "Operations": what every operation that writes into a lent buffer hands back, and what the buffer holds afterwards.
-use Rattle.std.specs.Prelude.{◌≡◌, ◌++◌}
-use Rattle.apportionment.specs.Words.{cond, List, ℕ, leb, eqb, length, drop}
+use Rattle.std.specs.Prelude.{◌≡◌, ◌++◌, cond, List, ℕ, leb, eqb, length, drop}
 use Rattle.apportionment.specs.Refusals.{accepted, buffer_too_short}
 use Rattle.text.specs.Shared.{refusal_line}
 use Rattle.handover.specs.declared.Written.{Written}

@@ -1,6 +1,5 @@
 -- Document 01, "The register" and "Operations": the three kinds of line, from what is left of the bytes, and their checks in order.
-use Rattle.std.specs.Prelude.{◌∷◌, ◌+◌}
-use Rattle.apportionment.specs.Words.{Bool, true, false, cond, not, List, [], ℕ, zero, suc, ltb, eqb}
+use Rattle.std.specs.Prelude.{◌∷◌, ◌+◌, Bool, true, false, cond, not, List, [], ℕ, zero, suc, ltb, eqb}
 use Rattle.apportionment.specs.Refusals.{accepted, line_ill_formed, number_out_of_limits, method_unknown, name_used, running_sum_too_large}
 use Rattle.apportionment.specs.Refusals.{total_differs, outside, first_refusal}
 use Rattle.apportionment.specs.Limits.{state_limit, house_limit, sum_limit}

@@ -1,6 +1,5 @@
 -- Document 01, "The listing in full" and "Operations": the listing of a register, line by line, its refusals, and the promise.
-use Rattle.std.specs.Prelude.{◌++◌}
-use Rattle.apportionment.specs.Words.{cond, List, [], ℕ, zero, suc, eqb, get_or}
+use Rattle.std.specs.Prelude.{◌++◌, cond, List, [], ℕ, zero, suc, eqb, get_or}
 use Rattle.apportionment.specs.Quantities.{departure_text, mark_for, mark_text}
 use Rattle.apportionment.specs.{Refusals.accepted, Lists.sum, Text.bytes_of, Allotment.allot_refusal, Allotment.seats_of}
 use Rattle.register.specs.{Register.reading_of, Register.populations_in, Register.name_of, declared.Reading.Reading}

@@ -1,6 +1,5 @@
 -- Document 01, "Leximin" and "Operations", with W-207: a placing once opened and after each step, which are genuine, and moving one.
-use Rattle.std.specs.Prelude.{◌&&◌, ◌++◌, ◌+◌, ◌-◌}
-use Rattle.apportionment.specs.Words.{Bool, cond, List, [], ℕ, min, leb, eqb, length, take, replicate}
+use Rattle.std.specs.Prelude.{◌&&◌, ◌++◌, ◌+◌, ◌-◌, Bool, cond, List, [], ℕ, min, leb, eqb, length, take, replicate}
 use Rattle.apportionment.specs.Limits.{state_limit}
 use Rattle.apportionment.specs.Leximin.{leximin_for, start_seats, start_total, gap, total_after}
 use Rattle.apportionment.specs.{Refusals.accepted, Refusals.placing_foreign, Lists.same_list, Quantities.distance, Allotment.open_refusal}

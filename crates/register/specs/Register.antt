@@ -1,6 +1,5 @@
 -- Document 01, "Operations": reading a register line by line, and names. Each definition takes what is left of the bytes.
-use Rattle.std.specs.Prelude.{◌+◌}
-use Rattle.apportionment.specs.Words.{cond, List, ℕ, zero, suc, ltb, eqb, length, take, set, replicate, []}
+use Rattle.std.specs.Prelude.{◌+◌, cond, List, ℕ, zero, suc, ltb, eqb, length, take, set, replicate, []}
 use Rattle.apportionment.specs.Refusals.{accepted, register_too_long, line_ill_formed, place_out_of_states}
 use Rattle.apportionment.specs.{Limits.state_limit, Limits.register_limit, declared.Method.TheVariants.Leximin}
 use Rattle.fields.specs.Grammar.{rest_of}

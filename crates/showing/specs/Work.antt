@@ -1,7 +1,6 @@
 -- Leximin's work as text: the start, before each step every state as it is and as it would be, the step, and the end (docs/PROGRAMS.md).
 -- P is the sum of the populations, H the house; `rows` is the register from the first state's line on.
-use Rattle.std.specs.Prelude.{◌++◌, ◌+◌, ◌-◌}
-use Rattle.apportionment.specs.Words.{Bool, cond, List, [], ℕ, zero, suc, ltb, eqb, length, get_or, take}
+use Rattle.std.specs.Prelude.{◌++◌, ◌+◌, ◌-◌, Bool, cond, List, [], ℕ, zero, suc, ltb, eqb, length, get_or, take}
 use Rattle.apportionment.specs.{Text.bytes_of, Text.decimal, Quantities.departure_text}
 use Rattle.placing.specs.{Placing.people_of, declared.Placing.Placing}
 use Rattle.register.specs.Register.{name_in_row}

@@ -1,6 +1,5 @@
 -- Lines that the desk's texts share: the first one, and in it two numbers; the line of totals; a refusal's.
-use Rattle.std.specs.Prelude.{◌++◌}
-use Rattle.apportionment.specs.Words.{List, ℕ}
+use Rattle.std.specs.Prelude.{◌++◌, List, ℕ}
 use Rattle.apportionment.specs.{Text.bytes_of, Text.decimal, Methods.method_text, declared.Method.Method}
 
 unfoldable pub numbers_text : (x y : ℕ) → List ℕ  -- Two numbers of a line, each after a comma.
