@@ -104,8 +104,8 @@ module _ (ps : List ℕ) (H most : ℕ) (positive : Positive ps H) where
     sizes_over ys h =
         every_size (sum ps) H (Over C) ps ys h.states
         (λ i hi.
-        let most-here : get_or ys i 0 ≤ most = omega (arith, entry_at_most_sum ys i, h.whole) in
-        size_over most (get_or ps i 0) (get_or ys i 0) (sum ps) H (h.each i hi) most-here)
+        let most_here : get_or ys i 0 ≤ most = omega (arith, entry_at_most_sum ys i, h.whole) in
+        size_over most (get_or ps i 0) (get_or ys i 0) (sum ps) H (h.each i hi) most_here)
 
     -- The lists of two allotments of a total compare as their weights.
     lists_by_weight : (ys zs : List ℕ) → Allotment (length ps) t ys → Allotment (length ps) t zs

@@ -18,18 +18,18 @@ clean c =
     clean_in args.reading (name_in_row args.rows.now)
 
 -- The clean form stands at the front of the page.
-front-of-page : (c : After-put_clean-size) → AtFront (clean c) c.put_clean-size.new.out c.put_clean-size.result
-front-of-page c =
+front_of_page : (c : After-put_clean-size) → AtFront (clean c) c.put_clean-size.new.out c.put_clean-size.result
+front_of_page c =
     let pre = c.requires.cleanable in
     wrote_front c.put_clean-size.ensures (omega (arith, clean_has_room pre.0, pre.1))
 
 pub slice_bounds-hand_over-end : goal.slice_bounds-hand_over-end
-slice_bounds-hand_over-end c = (front-of-page (goal.at.slice_bounds-hand_over-end c).After-put_clean-size).within
+slice_bounds-hand_over-end c = (front_of_page (goal.at.slice_bounds-hand_over-end c).After-put_clean-size).within
 
 pub slice_bounds-hand_over-end-2 : goal.slice_bounds-hand_over-end-2
 slice_bounds-hand_over-end-2 c =
-    sym (length-take-le _ _ (front-of-page (goal.at.slice_bounds-hand_over-end-2 c).After-put_clean-size).within)
+    sym (length-take-le _ _ (front_of_page (goal.at.slice_bounds-hand_over-end-2 c).After-put_clean-size).within)
 
 pub returns : goal.returns
 returns c =
-    handed_over refl (front-of-page (goal.at.returns c).After-put_clean-size) c.hand_over.ensures
+    handed_over refl (front_of_page (goal.at.returns c).After-put_clean-size) c.hand_over.ensures

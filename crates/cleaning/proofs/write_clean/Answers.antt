@@ -5,8 +5,8 @@ use Rattle.cleaning.specs.inner.Cleaned.{reading_refused, read_cleanable, read_c
 use Rattle.cleaning.proofs.write_clean.Goals as goal
 use Rattle.cleaning.proofs.write_clean.Goals.{Else-reading-ne-ACCEPTED}
 
-accepted-there : (c : Else-reading-ne-ACCEPTED) → GoodReading c.args.register.now c.read_places-reading.result
-accepted-there c = record { reading = c.read_places-reading.ensures.reading; good = c.if-reading-ne-ACCEPTED.false }
+accepted_there : (c : Else-reading-ne-ACCEPTED) → GoodReading c.args.register.now c.read_places-reading.result
+accepted_there c = record { reading = c.read_places-reading.ensures.reading; good = c.if-reading-ne-ACCEPTED.false }
 
 pub returns-then-reading-ne-ACCEPTED : goal.returns-then-reading-ne-ACCEPTED
 returns-then-reading-ne-ACCEPTED c =
@@ -17,23 +17,23 @@ pub copy_few-requires : goal.copy_few-requires
 copy_few-requires c =
     record {
       cleanable =
-          (read_cleanable (accepted-there (goal.at.copy_few-requires c).Else-reading-ne-ACCEPTED) c.of-rows.ensures, omega arith);
+          (read_cleanable (accepted_there (goal.at.copy_few-requires c).Else-reading-ne-ACCEPTED) c.of-rows.ensures, omega arith);
       placed =
           rw c.of-rows.ensures (c.read_places-reading.ensures.placed c.if-reading-ne-ACCEPTED.false);
     }
 
 pub returns-then-reading-le-FEW_STATES : goal.returns-then-reading-le-FEW_STATES
 returns-then-reading-le-FEW_STATES c =
-    read_cleaned (accepted-there (goal.at.returns-then-reading-le-FEW_STATES c).Else-reading-ne-ACCEPTED) c.of-rows.ensures
+    read_cleaned (accepted_there (goal.at.returns-then-reading-le-FEW_STATES c).Else-reading-ne-ACCEPTED) c.of-rows.ensures
     c.copy_few.ensures
 
 pub copy_many-requires : goal.copy_many-requires
 copy_many-requires c =
     record {
-      cleanable = read_cleanable (accepted-there (goal.at.copy_many-requires c).Else-reading-ne-ACCEPTED) c.of-rows.ensures;
+      cleanable = read_cleanable (accepted_there (goal.at.copy_many-requires c).Else-reading-ne-ACCEPTED) c.of-rows.ensures;
       placed = rw c.of-rows.ensures (c.read_places-reading.ensures.placed c.if-reading-ne-ACCEPTED.false);
     }
 
 pub returns : goal.returns
 returns c =
-    read_cleaned (accepted-there (goal.at.returns c).Else-reading-ne-ACCEPTED) c.of-rows.ensures c.copy_many.ensures
+    read_cleaned (accepted_there (goal.at.returns c).Else-reading-ne-ACCEPTED) c.of-rows.ensures c.copy_many.ensures

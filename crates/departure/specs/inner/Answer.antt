@@ -130,8 +130,8 @@ module _ (p a P H : ℕ) where
   unfolding number_of shown_in mark_in departure_shown departure_mark mark_for
   seated_answer good seated =
       let yes = eq-eqb (departure_refusal p a P H) accepted good in
-      let some-seat = ne_eqb a 0 seated in
-      record { number = sym good; shown = simp (yes, some-seat); mark = simp (yes, some-seat) }
+      let some_seat = ne_eqb a 0 seated in
+      record { number = sym good; shown = simp (yes, some_seat); mark = simp (yes, some_seat) }
 
 -- ---- what 64 bits can hold
 

@@ -13,13 +13,13 @@ use Rattle.desk.specs.Interface.{exported_shown}
 use Rattle.desk.proofs.exported_shown.Goals as goal
 
 -- The record that is made is the definition's, once its word is read back as the shown departure.
-shown-is : (word s : ℤ) (m : Mark) (number : ℕ) → word ≡ s → number ≡ mark_number m
+shown_is : (word s : ℤ) (m : Mark) (number : ℕ) → word ≡ s → number ≡ mark_number m
     → ◌≡◌ {A = DeskShown} (record { refusal = accepted; shown = word; mark = number })
     (exported_shown accepted (some s) (some m))
 unfolding exported_shown
-shown-is word s m number e f = rw (e, f)
+shown_is word s m number e f = rw (e, f)
 
 pub returns : goal.returns
 returns c =
-    shown-is _ c.args.shown c.args.mark _
+    shown_is _ c.args.shown c.args.mark _
     (to_z-of_z w64 c.args.shown c.ranges.shown) c.mark_number-mark.ensures

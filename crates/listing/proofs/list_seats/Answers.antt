@@ -17,15 +17,15 @@ listing c =
     listing_in args.reading (name_in_row args.rows.now) args.seats.now
 
 -- The listing stands at the front of the page.
-front-of-page : (c : After-put_listing-size) → AtFront (listing c) c.put_listing-size.new.out c.put_listing-size.result
-front-of-page c = wrote_front c.put_listing-size.ensures (listing_has_room c.requires.listable)
+front_of_page : (c : After-put_listing-size) → AtFront (listing c) c.put_listing-size.new.out c.put_listing-size.result
+front_of_page c = wrote_front c.put_listing-size.ensures (listing_has_room c.requires.listable)
 
 pub slice_bounds-page-end : goal.slice_bounds-page-end
-slice_bounds-page-end c = (front-of-page (goal.at.slice_bounds-page-end c).After-put_listing-size).within
+slice_bounds-page-end c = (front_of_page (goal.at.slice_bounds-page-end c).After-put_listing-size).within
 
 pub slice_bounds-hand_over-end : goal.slice_bounds-hand_over-end
-slice_bounds-hand_over-end c = sym (length-take-le _ _ (front-of-page (goal.at.slice_bounds-hand_over-end c).After-put_listing-size).within)
+slice_bounds-hand_over-end c = sym (length-take-le _ _ (front_of_page (goal.at.slice_bounds-hand_over-end c).After-put_listing-size).within)
 
 pub returns : goal.returns
 returns c =
-    handed_over refl (front-of-page (goal.at.returns c).After-put_listing-size) c.hand_over.ensures
+    handed_over refl (front_of_page (goal.at.returns c).After-put_listing-size) c.hand_over.ensures

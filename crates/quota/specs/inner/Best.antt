@@ -106,8 +106,8 @@ module _ {ps : List ℕ} (ok : Peopled ps) {H : ℕ} where
                   either_way (ltb (f i * sum ps) (get_or ps i 0 * s))
                   (λ t. rw (xi, yi) (omega (arith, released_next (get_or ps i 0) (sum ps) s (f i) (ltb-true _ _ t))))
                   (λ t.
-                  let comes-first = room.before i hi (omega (arith, xi)) (ltb-false _ _ t) in
-                  absurd (false≢true (sym (first i hi apart) ∙ comes-first)))
+                  let comes_first = room.before i hi (omega (arith, xi)) (ltb-false _ _ t) in
+                  absurd (false≢true (sym (first i hi apart) ∙ comes_first)))
 
   pub best_unique : (xs ys : List ℕ) → Best ps H xs → Best ps H ys → xs ≡ ys
   best_unique xs ys bx by =

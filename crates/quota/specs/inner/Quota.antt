@@ -166,15 +166,15 @@ module _ {ps : List ℕ} (ok : Peopled ps) where
       too_few : share_of H i (at_end i) ≡ true → ⊥
       too_few e =
           let share : (at_end i + 1) * sum ps ≤ get_or ps i 0 * H = leb-true _ _ e in
-          let less-here : at_end i * sum ps + get_or ps i 0 * s < then i * sum ps + get_or ps i 0 * H
+          let less_here : at_end i * sum ps + get_or ps i 0 * s < then i * sum ps + get_or ps i 0 * H
           = omega (arith, share, unable i hi (at_end i) (kept i) e, someone ok, add-mul (at_end i) 1 (sum ps)) in
           let sums = sum-list_of_less (λ (j : ℕ). at_end j * sum ps + get_or ps j 0 * s) (λ (j : ℕ). then j * sum ps + get_or ps j 0 * H)
-          (length ps) each i hi less-here in
+          (length ps) each i hi less_here in
           let left = sum_of_both ps (quota_seats ps H) (sum ps) s (quota_long H) in
           let right = sum_of_both ps (quota_seats ps s) (sum ps) H (quota_long s) in
-          let left-sum : sum (quota_seats ps H) * sum ps ≡ H * sum ps = rw (quota_sum H) in
-          let right-sum : sum (quota_seats ps s) * sum ps ≡ s * sum ps = rw (quota_sum s) in
-          omega (arith, sums, left, right, left-sum, right-sum, mul_comm H (sum ps), mul_comm s (sum ps))
+          let left_sum : sum (quota_seats ps H) * sum ps ≡ H * sum ps = rw (quota_sum H) in
+          let right_sum : sum (quota_seats ps s) * sum ps ≡ s * sum ps = rw (quota_sum s) in
+          omega (arith, sums, left, right, left_sum, right_sum, mul_comm H (sum ps), mul_comm s (sum ps))
 
   -- After every seat h, every state has its quota.
   pub quota_kept : (h i : ℕ) → i < length ps → WithinQuota (get_or ps i 0) (sum ps) h (get_or (quota_seats ps h) i 0)

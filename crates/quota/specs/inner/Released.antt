@@ -93,8 +93,8 @@ released_later p P (suc m) s t h =
     rw (← (add-one m))
     (either_way (ltb (m * P) (p * s))
     (λ e.
-    let now-able : m * P < p * t = lt_of_lt_of_le (ltb-true (m * P) (p * s) e) (mul-le-mul_left p h) in
-    omega (arith, released_next p P s m (ltb-true (m * P) (p * s) e), released_next p P t m now-able, released_later p P m s t h))
+    let now_able : m * P < p * t = lt_of_lt_of_le (ltb-true (m * P) (p * s) e) (mul-le-mul_left p h) in
+    omega (arith, released_next p P s m (ltb-true (m * P) (p * s) e), released_next p P t m now_able, released_later p P m s t h))
     (λ e.
     omega (
       arith,

@@ -61,8 +61,8 @@ key_tells {p} {P} {H} {m} {k} some sum whole h none (outside e f g) =
     let late : p * (k + 1) ≤ m * P = rw (mul_comm p (k + 1)) ((le-div_iff_mul-le some).0 later) in
     rw (e, le-ltb (m * P) (p * (k + 1)) late, g)
 key_tells {p} {P} {H} {m} {k} some sum whole h none (waits e f g here) =
-    let now-able : m * P < p * (k + 1) = rw (mul_comm p (k + 1)) ((div-lt_iff_lt-mul some).0 (omega (arith, here))) in
-    rw (e, lt-ltb (m * P) (p * (k + 1)) now-able, g)
+    let now_able : m * P < p * (k + 1) = rw (mul_comm p (k + 1)) ((div-lt_iff_lt-mul some).0 (omega (arith, here))) in
+    rw (e, lt-ltb (m * P) (p * (k + 1)) now_able, g)
 key_tells {p} {P} {H} {m} {k} some sum whole h none (served e f g) =
     let past : p * H < (m + 1) * P = (div-lt_iff_lt-mul sum).0 (omega (arith, whole)) in
     let within : p * (k + 1) ≤ p * H = mul-le-mul_left p (omega (arith, h)) in
@@ -117,7 +117,7 @@ module _ {ps : List ℕ} (ok : Peopled ps) {H k : ℕ} {xs outers keys : List �
     pub root_waits : able ps (k + 1) xs (seat_goes_to ps (k + 1) xs) ≡ true → 0 < get_or keys (get_or tree 1 0) 0
     root_waits one =
         let root = get_or tree 1 0 in
-        let inside-list : root < length ps = omega (arith, root_lt keys played some_key, all.keys_long) in
-        let is-able : able ps (k + 1) xs root ≡ true = rw turn_is_root one in
-        rw (key_at root inside-list, is-able)
-        (key_positive (get_or ps root 0) (get_or xs root 0) (ok.people root inside-list) (le_trans (few root) (lit≤ tt)))
+        let inside_list : root < length ps = omega (arith, root_lt keys played some_key, all.keys_long) in
+        let is_able : able ps (k + 1) xs root ≡ true = rw turn_is_root one in
+        rw (key_at root inside_list, is_able)
+        (key_positive (get_or ps root 0) (get_or xs root 0) (ok.people root inside_list) (le_trans (few root) (lit≤ tt)))

@@ -28,8 +28,8 @@ unfolding reading_of lines_of
 reading_is c = rw (le-ltb _ _ c.if-bytes-gt-REGISTER_LIMIT.false, eq-eqb _ _ (head_accepted c))
 
 -- The same number of the same rows.
-same-placed : {n m : ℕ} {rows others starts ends : List ℕ} → m ≡ n → rows ≡ others → Placed n rows starts ends → Placed m others starts ends
-same-placed count same placed = rw (count, ← same) placed
+same_placed : {n m : ℕ} {rows others starts ends : List ℕ} → m ≡ n → rows ≡ others → Placed n rows starts ends → Placed m others starts ends
+same_placed count same placed = rw (count, ← same) placed
 
 pub returns-then-bytes-gt-REGISTER_LIMIT : goal.returns-then-bytes-gt-REGISTER_LIMIT
 unfolding reading_of refused
@@ -70,5 +70,5 @@ returns c =
       placed = λ none.
           let counted = ap (λ r. r.states) is
           ∙ reading_counted (bytes (goal.at.returns c).Else-head-ne0) (sym (ap (λ r. r.refusal) is) ∙ none) in
-          same-placed (counted ∙ sym (ap (λ h. h.states) head)) c.of.ensures (c.read_states.ensures.placed none);
+          same_placed (counted ∙ sym (ap (λ h. h.states) head)) c.of.ensures (c.read_states.ensures.placed none);
     }

@@ -8,15 +8,15 @@ use Rattle.remainders.specs.inner.Precedence.{precedence_of, Share, weighted_fit
 use Rattle.remainders.proofs.precedence.Goals as goal
 
 -- What the whole part leaves is the remainder.
-left-is-remainder : {p whole P H : ℕ} → Share p whole P H → p * H - whole * P ≡ p * H % P
-left-is-remainder {p} {whole} {P} {H} s = rw s.whole_is (sym (mod-eq-sub-div-mul (p * H) P))
+left_is_remainder : {p whole P H : ℕ} → Share p whole P H → p * H - whole * P ≡ p * H % P
+left_is_remainder {p} {whole} {P} {H} s = rw s.whole_is (sym (mod-eq-sub-div-mul (p * H) P))
 
 -- The total, the population and what the whole part leaves are within the largest sum.
-within-limit : {p whole P H : ℕ} → Share p whole P H → (P ≤ sum_limit) × (p ≤ sum_limit) × (p * H - whole * P ≤ sum_limit)
-within-limit {p} {whole} {P} {H} s = (
+within_limit : {p whole P H : ℕ} → Share p whole P H → (P ≤ sum_limit) × (p ≤ sum_limit) × (p * H - whole * P ≤ sum_limit)
+within_limit {p} {whole} {P} {H} s = (
   s.sum_within,
   omega (arith, s.people, s.sum_within),
-  omega (arith, left-is-remainder s, mod-lt (p * H) s.someone, s.sum_within),
+  omega (arith, left_is_remainder s, mod-lt (p * H) s.someone, s.sum_within),
 )
 
 pub overflow_mul-remainder : goal.overflow_mul-remainder
@@ -32,14 +32,14 @@ overflow_sub-remainder c = rw c.requires.whole_is (div-mul-le_self (c.args.popul
 
 pub overflow_mul-result : goal.overflow_mul-result
 overflow_mul-result c =
-    let small = within-limit c.requires in
+    let small = within_limit c.requires in
     weighted_fits (omega (arith, small.0, small.1, small.2))
 
 pub overflow_add-result : goal.overflow_add-result
 overflow_add-result c =
-    let small = within-limit c.requires in
+    let small = within_limit c.requires in
     weighted_leaves_room (omega (arith, small.0, small.1, small.2)) (omega (arith, small.0, small.1, small.2))
 
 pub returns : goal.returns
 unfolding precedence_of
-returns c = rw (left-is-remainder c.requires)
+returns c = rw (left_is_remainder c.requires)

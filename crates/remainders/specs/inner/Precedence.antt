@@ -86,19 +86,19 @@ weighted_test w r s p q hp hq =
     (λ less.
     let one_more : suc r * w ≤ s * w = mul-le-mul_right w (ltb-true r s less) in
     rw less (lt-ltb (r * w + p) (s * w + q) (omega (arith, one_more, suc-mul r w))))
-    (λ not-less. either_way (ltb s r)
+    (λ not_less. either_way (ltb s r)
     (λ more.
     let one_more : suc s * w ≤ r * w = mul-le-mul_right w (ltb-true s r more) in
-    rw (not-less, more) (le-ltb (r * w + p) (s * w + q) (omega (arith, one_more, suc-mul s w))))
+    rw (not_less, more) (le-ltb (r * w + p) (s * w + q) (omega (arith, one_more, suc-mul s w))))
     (λ not_more.
-    let same : r ≡ s = omega (arith, ltb-false r s not-less, ltb-false s r not_more) in
-    rw (not-less, not_more) (rw same (added_test (s * w) p q))))
+    let same : r ≡ s = omega (arith, ltb-false r s not_less, ltb-false s r not_more) in
+    rw (not_less, not_more) (rw same (added_test (s * w) p q))))
   where
     added_test : (x a b : ℕ) → ltb (x + a) (x + b) ≡ ltb a b
     added_test x a b =
         either_way (ltb a b)
         (λ less. rw less (lt-ltb (x + a) (x + b) (omega (arith, ltb-true a b less))))
-        (λ not-less. rw not-less (le-ltb (x + a) (x + b) (omega (arith, ltb-false a b not-less))))
+        (λ not_less. rw not_less (le-ltb (x + a) (x + b) (omega (arith, ltb-false a b not_less))))
 
 -- Two tests in turn are one test of both, read from either side.
 tests_in_turn : (a b c d e : Bool) → cond a true (cond b false (cond c true (cond d false e)))

@@ -11,5 +11,5 @@ returns c = rw (c.weight_of.ensures, c.signpost_of-signpost.ensures)
 pub overflow_mul-under : goal.overflow_mul-under
 unfolding held
 overflow_mul-under c =
-    let weight-of = c.weight_of in
-    let signpost-of = c.signpost_of-signpost in rw (weight-of.ensures, signpost-of.ensures) (under_fits c.args.method c.requires)
+    let weight_of = c.weight_of in
+    let signpost_of = c.signpost_of-signpost in rw (weight_of.ensures, signpost_of.ensures) (under_fits c.args.method c.requires)

@@ -6,7 +6,7 @@ use Rattle.text.proofs.put_shown_size.Goals as goal
 pub returns : goal.returns
 unfolding shown_size_text
 returns c =
-    let to-the-point = wrote_then c.put_decimal-whole.ensures c.put_byte-point.ensures in
+    let to_the_point = wrote_then c.put_decimal-whole.ensures c.put_byte-point.ensures in
     wrote_then
-    (wrote_then (wrote_then to-the-point c.put_digit-first.ensures) c.put_digit-second.ensures)
+    (wrote_then (wrote_then to_the_point c.put_digit-first.ensures) c.put_digit-second.ensures)
     c.put_digit.ensures

@@ -10,10 +10,10 @@ use Rattle.wide.proofs.in_one_word.Goals as goal
 
 pub returns-then-a-lt-HALF : goal.returns-then-a-lt-HALF
 returns-then-a-lt-HALF c =
-    λ narrow. half-words c.args.a c.args.b c.if-a-lt-HALF.true (ltb-true c.args.b half narrow)
+    λ narrow. half_words c.args.a c.args.b c.if-a-lt-HALF.true (ltb-true c.args.b half narrow)
   where
-    half-words : (a b : ℕ) → a < half → b < half → a * b < 2 ^ 64
-    half-words a b small narrow =
+    half_words : (a b : ℕ) → a < half → b < half → a * b < 2 ^ 64
+    half_words a b small narrow =
         let largest : a * b ≤ (half - 1) * (half - 1) = mul-le-mul {n₂ = half - 1} {m₂ = half - 1} (omega arith) (omega arith) in
         omega (arith, largest)
 

@@ -10,13 +10,13 @@ use Rattle.departure.specs.inner.Exact.{size}
 use Rattle.wide.proofs.Signed.{read_back}
 use Rattle.departure.proofs.Departure.at_most.Goals as goal
 
-not-ltb : (x y : ℕ) → not (ltb x y) ≡ leb y x
-not-ltb x y =
+not_ltb : (x y : ℕ) → not (ltb x y) ≡ leb y x
+not_ltb x y =
     either_way (ltb x y) (λ e. rw e (sym (lt-leb y x (ltb-true x y e)))) (λ e. rw e (sym (le-leb y x (ltb-false x y e))))
 
-not-less : (s t : Fraction) → not (less t s) ≡ at_most s t
+not_less : (s t : Fraction) → not (less t s) ≡ at_most s t
 unfolding less at_most
-not-less s t = not-ltb (t.over * s.under) (s.over * t.under)
+not_less s t = not_ltb (t.over * s.under) (s.over * t.under)
 
 pub returns : goal.returns
 unfolding less size
@@ -30,4 +30,4 @@ returns c =
       read_back c.args.self.numerator own.given.0.1,
       read_back c.args.limit.numerator other.given.0.1,
     )
-    (not-less (size c.args.self) (size c.args.limit))
+    (not_less (size c.args.self) (size c.args.limit))

@@ -21,8 +21,8 @@ overflow_add-given c =
 pub loop-i-preserved : goal.loop-i-preserved
 loop-i-preserved c =
     let turn = c.loop-i in
-    let loop-test = c.loop-i-test in
-    filling_more c.args.method c.requires.0 c.requires.2 turn.invariant loop-test.true c.rounded_of-own.ensures
+    let loop_test = c.loop-i-test in
+    filling_more c.args.method c.requires.0 c.requires.2 turn.invariant loop_test.true c.rounded_of-own.ensures
 
 pub returns : goal.returns
 returns c =

@@ -15,32 +15,32 @@ bytes c = c.args.s.now
 abbrev word : After-fields_from-count → List ℕ
 word c = c.field_to-word.result.now
 
-word-is : (c : After-fields_from-count) → word c ≡ field_of (line_of (bytes c))
-word-is c = c.field_to-word.ensures ∙ ap field_of c.line_to-line.ensures
+word_is : (c : After-fields_from-count) → word c ≡ field_of (line_of (bytes c))
+word_is c = c.field_to-word.ensures ∙ ap field_of c.line_to-line.ensures
 
-method-is : (c : After-fields_from-count) → c.field_to-method.result.now ≡ method_field (bytes c)
+method_is : (c : After-fields_from-count) → c.field_to-method.result.now ≡ method_field (bytes c)
 unfolding method_field
-method-is c = c.field_to-method.ensures
+method_is c = c.field_to-method.ensures
     ∙ ap field_of (c.fields_from-later.ensures ∙ ap fields_after c.line_to-line.ensures)
 
-house-is : (c : After-fields_from-count) → c.field_to-house.result.now ≡ house_field (bytes c)
+house_is : (c : After-fields_from-count) → c.field_to-house.result.now ≡ house_field (bytes c)
 unfolding house_field
-house-is c = c.field_to-house.ensures
+house_is c = c.field_to-house.ensures
     ∙ ap field_of (c.fields_from-last.ensures
     ∙ ap fields_after (c.fields_from-later.ensures ∙ ap fields_after c.line_to-line.ensures))
 
-count-is : (c : After-fields_from-count) → c.fields_from-count.result.now ≡ count_field (bytes c)
+count_is : (c : After-fields_from-count) → c.fields_from-count.result.now ≡ count_field (bytes c)
 unfolding count_field
-count-is c = c.fields_from-count.ensures
+count_is c = c.fields_from-count.ensures
     ∙ ap fields_after (c.fields_from-last.ensures
     ∙ ap fields_after (c.fields_from-later.ensures ∙ ap fields_after c.line_to-line.ensures))
 
 formed : (c : After-is_head) → c.is_head.result ≡ is_head (bytes (goal.at.After-is_head c).After-fields_from-count)
 unfolding is_head
 formed c = c.is_head.ensures
-    ∙ same_head c.is_ended.ensures (word-is (goal.at.After-is_head c).After-fields_from-count)
-    (method-is (goal.at.After-is_head c).After-fields_from-count) (house-is (goal.at.After-is_head c).After-fields_from-count)
-    (count-is (goal.at.After-is_head c).After-fields_from-count)
+    ∙ same_head c.is_ended.ensures (word_is (goal.at.After-is_head c).After-fields_from-count)
+    (method_is (goal.at.After-is_head c).After-fields_from-count) (house_is (goal.at.After-is_head c).After-fields_from-count)
+    (count_is (goal.at.After-is_head c).After-fields_from-count)
 
 pub returns-then-not-is_head : goal.returns-then-not-is_head
 returns-then-not-is_head c =
@@ -49,13 +49,13 @@ returns-then-not-is_head c =
 pub value-requires : goal.value-requires
 value-requires c =
     rw
-    (house-is (goal.at.value-requires c).After-fields_from-count)
+    (house_is (goal.at.value-requires c).After-fields_from-count)
     (head_numbers _ (sym (formed (goal.at.value-requires c).After-is_head) ∙ c.if-not-is_head.false)).0
 
 pub value-requires-2 : goal.value-requires-2
 value-requires-2 c =
     rw
-    (count-is (goal.at.value-requires-2 c).After-fields_from-count)
+    (count_is (goal.at.value-requires-2 c).After-fields_from-count)
     (head_numbers _ (sym (formed (goal.at.value-requires-2 c).After-is_head) ∙ c.if-not-is_head.false)).1
 
 pub returns : goal.returns
@@ -67,7 +67,7 @@ returns c =
       c.method_named.ensures,
       c.value.ensures,
       c.value-2.ensures,
-      method-is ((goal.at.returns c).After-fields_from-count),
-      house-is ((goal.at.returns c).After-fields_from-count),
-      count-is ((goal.at.returns c).After-fields_from-count),
+      method_is ((goal.at.returns c).After-fields_from-count),
+      house_is ((goal.at.returns c).After-fields_from-count),
+      count_is ((goal.at.returns c).After-fields_from-count),
     )

@@ -17,9 +17,9 @@ use Rattle.lines.proofs.pairs.closing_refusal.Goals.{After-fields_from-digits, A
 abbrev bytes : After-fields_from-digits → List ℕ
 bytes c = c.args.s.now
 
-word-is : (c : After-fields_from-digits) → c.field_to-word.result.now ≡ name_at (bytes c)
+word_is : (c : After-fields_from-digits) → c.field_to-word.result.now ≡ name_at (bytes c)
 unfolding name_at
-word-is c = c.field_to-word.ensures ∙ ap field_of c.line_to-line.ensures
+word_is c = c.field_to-word.ensures ∙ ap field_of c.line_to-line.ensures
 
 digits_are : (c : After-fields_from-digits) → c.fields_from-digits.result.now ≡ number_field (bytes c)
 unfolding number_field
@@ -29,16 +29,16 @@ formed : (c : After-is_pair) → c.is_pair.result ≡ is_closing_line (bytes (go
 unfolding is_closing_line
 formed c = c.is_pair.ensures
     ∙ same_pair c.is_ended.ensures
-    (c.same.ensures ∙ ap (λ word. same_list word (bytes_of "total")) (word-is (goal.at.After-is_pair c).After-fields_from-digits))
+    (c.same.ensures ∙ ap (λ word. same_list word (bytes_of "total")) (word_is (goal.at.After-is_pair c).After-fields_from-digits))
     (digits_are (goal.at.After-is_pair c).After-fields_from-digits)
 
 -- Where the total is known the line was cut.
 abbrev cut : After-value-total → After-fields_from-digits
 cut c = (goal.at.After-value-total c).After-fields_from-digits
 
-total-is : (c : After-value-total) → c.value-total.result ≡ number_at (bytes (cut c))
+total_is : (c : After-value-total) → c.value-total.result ≡ number_at (bytes (cut c))
 unfolding number_at
-total-is c = c.value-total.ensures ∙ ap value_of (digits_are (cut c))
+total_is c = c.value-total.ensures ∙ ap value_of (digits_are (cut c))
 
 pub returns-then-not-is_pair : goal.returns-then-not-is_pair
 unfolding closing_refusal first_refusal
@@ -54,7 +54,7 @@ unfolding closing_refusal first_refusal
 returns-then-outside c =
     simp (
       sym (formed (goal.at.returns-then-outside c).After-is_pair) ∙ c.if-not-is_pair.false,
-      rw (total-is (goal.at.returns-then-outside c).After-value-total) at (sym c.outside.ensures ∙ c.if-outside.true),
+      rw (total_is (goal.at.returns-then-outside c).After-value-total) at (sym c.outside.ensures ∙ c.if-outside.true),
     )
 
 pub returns-then-total-sum : goal.returns-then-total-sum
@@ -62,8 +62,8 @@ unfolding closing_refusal first_refusal
 returns-then-total-sum c =
     simp (
       sym (formed (goal.at.returns-then-total-sum c).After-is_pair) ∙ c.if-not-is_pair.false,
-      rw (total-is (goal.at.returns-then-total-sum c).After-value-total) at (sym c.outside.ensures ∙ c.if-outside.false),
-      rw (total-is (goal.at.returns-then-total-sum c).After-value-total) at (ne_eqb _ _ c.if-total-sum.true),
+      rw (total_is (goal.at.returns-then-total-sum c).After-value-total) at (sym c.outside.ensures ∙ c.if-outside.false),
+      rw (total_is (goal.at.returns-then-total-sum c).After-value-total) at (ne_eqb _ _ c.if-total-sum.true),
     )
 
 pub returns : goal.returns
@@ -71,6 +71,6 @@ unfolding closing_refusal first_refusal
 returns c =
     simp (
       sym (formed (goal.at.returns c).After-is_pair) ∙ c.if-not-is_pair.false,
-      rw (total-is (goal.at.returns c).After-value-total) at (sym c.outside.ensures ∙ c.if-outside.false),
-      rw (total-is (goal.at.returns c).After-value-total) at (eq-eqb c.value-total.result c.args.sum (omega arith)),
+      rw (total_is (goal.at.returns c).After-value-total) at (sym c.outside.ensures ∙ c.if-outside.false),
+      rw (total_is (goal.at.returns c).After-value-total) at (eq-eqb c.value-total.result c.args.sum (omega arith)),
     )

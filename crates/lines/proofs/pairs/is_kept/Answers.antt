@@ -8,8 +8,8 @@ use Rattle.lines.proofs.pairs.is_kept.Goals as goal
 use Rattle.lines.proofs.pairs.is_kept.Goals.{After-is_name_there}
 
 -- The answer of a turn is that for the name on its line.
-answer-is : (c : After-is_name_there) → same_list (name_on c.loop-i.i c.args.first.now) c.args.name.now ≡ c.is_name_there.result
-answer-is c =
+answer_is : (c : After-is_name_there) → same_list (name_on c.loop-i.i c.args.first.now) c.args.name.now ≡ c.is_name_there.result
+answer_is c =
     ap (λ part. same_list part c.args.name.now) (sym (c.loop-i.invariant.0.places.each c.loop-i.i (omega arith)).there)
     ∙ sym c.is_name_there.ensures
 
@@ -55,7 +55,7 @@ is_name_there-requires c =
 pub returns-then-is_name_there : goal.returns-then-is_name_there
 returns-then-is_name_there c =
     sym (used_on _ _ _ c.loop-i.i (omega arith)
-    (answer-is (goal.at.returns-then-is_name_there c).After-is_name_there ∙ c.if-is_name_there.true))
+    (answer_is (goal.at.returns-then-is_name_there c).After-is_name_there ∙ c.if-is_name_there.true))
 
 pub loop-i-preserved : goal.loop-i-preserved
 loop-i-preserved c =
@@ -64,7 +64,7 @@ loop-i-preserved c =
       inv.1,
       omega arith,
       below_more (λ j. same_list (name_on j _) _ ≡ false) _ inv.3
-          (answer-is (goal.at.loop-i-preserved c).After-is_name_there ∙ c.if-is_name_there.false),
+          (answer_is (goal.at.loop-i-preserved c).After-is_name_there ∙ c.if-is_name_there.false),
     )
 
 pub returns : goal.returns

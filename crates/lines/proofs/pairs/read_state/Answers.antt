@@ -17,16 +17,16 @@ use Rattle.lines.proofs.pairs.read_state.Goals.{After-value-population}
 abbrev bytes : After-fields_from-digits → List ℕ
 bytes c = c.args.s.now
 
-name-is : (c : After-fields_from-digits) → c.field_to-name.result.now ≡ name_at (bytes c)
+name_is : (c : After-fields_from-digits) → c.field_to-name.result.now ≡ name_at (bytes c)
 unfolding name_at
-name-is c = c.field_to-name.ensures ∙ ap field_of c.line_to-line.ensures
+name_is c = c.field_to-name.ensures ∙ ap field_of c.line_to-line.ensures
 
 digits_are : (c : After-fields_from-digits) → c.fields_from-digits.result.now ≡ number_field (bytes c)
 unfolding number_field
 digits_are c = c.fields_from-digits.ensures ∙ ap fields_after c.line_to-line.ensures
 
-print-is : (c : After-fields_from-digits) → c.read_field-field.result.print ≡ fingerprint_of c.field_to-name.result.now
-print-is c =
+print_is : (c : After-fields_from-digits) → c.read_field-field.result.print ≡ fingerprint_of c.field_to-name.result.now
+print_is c =
     ap (λ f. f.print) c.read_field-field.ensures
     ∙ field_print _
     ∙ ap fingerprint_of (sym c.field_to-name.ensures)
@@ -34,30 +34,30 @@ print-is c =
 formed : (c : After-is_pair) → c.is_pair.result ≡ is_state_line (bytes (goal.at.After-is_pair c).After-fields_from-digits)
 unfolding is_state_line
 formed c = c.is_pair.ensures
-    ∙ same_pair c.is_ended.ensures (c.is_name.ensures ∙ ap is_name (name-is (goal.at.After-is_pair c).After-fields_from-digits))
+    ∙ same_pair c.is_ended.ensures (c.is_name.ensures ∙ ap is_name (name_is (goal.at.After-is_pair c).After-fields_from-digits))
     (digits_are (goal.at.After-is_pair c).After-fields_from-digits)
 
 -- What was cut, from where the population is known.
 abbrev cut : After-value-population → After-fields_from-digits
 cut c = (goal.at.After-value-population c).After-fields_from-digits
 
-population-is : (c : After-value-population) → c.value-population.result ≡ number_at (bytes (cut c))
+population_is : (c : After-value-population) → c.value-population.result ≡ number_at (bytes (cut c))
 unfolding number_at
-population-is c = c.value-population.ensures ∙ ap value_of (digits_are (cut c))
+population_is c = c.value-population.ensures ∙ ap value_of (digits_are (cut c))
 
 -- The refusal that the definition gives.
-abbrev refusal-at : After-value-population → ℕ
-refusal-at c =
+abbrev refusal_at : After-value-population → ℕ
+refusal_at c =
     let a = c.args in
     entry_refusal (used_in a.k a.first.now (name_at a.s.now)) a.sum (number_at a.s.now)
 
 refusal_is : (c : After-entry_refusal-refusal) → c.entry_refusal-refusal.result
-    ≡ refusal-at (goal.at.After-entry_refusal-refusal c).After-value-population
+    ≡ refusal_at (goal.at.After-entry_refusal-refusal c).After-value-population
 refusal_is c = let a = c.args in
     c.entry_refusal-refusal.ensures
     ∙ ap₂ (λ used p. entry_refusal used a.sum p)
-    (c.is_used-used.ensures ∙ ap (used_in a.k a.first.now) (name-is (cut (goal.at.After-entry_refusal-refusal c).After-value-population)))
-    (population-is (goal.at.After-entry_refusal-refusal c).After-value-population)
+    (c.is_used-used.ensures ∙ ap (used_in a.k a.first.now) (name_is (cut (goal.at.After-entry_refusal-refusal c).After-value-population)))
+    (population_is (goal.at.After-entry_refusal-refusal c).After-value-population)
 
 pub field_to-name-requires : goal.field_to-name-requires
 field_to-name-requires c = ap (λ f. f.end) c.read_field-field.ensures ∙ field_end _
@@ -83,27 +83,27 @@ value-population-requires c =
 
 pub is_used-used-requires : goal.is_used-used-requires
 is_used-used-requires c =
-    (c.requires.1, print-is (goal.at.is_used-used-requires c).After-fields_from-digits)
+    (c.requires.1, print_is (goal.at.is_used-used-requires c).After-fields_from-digits)
 
 pub entry_refusal-refusal-requires : goal.entry_refusal-refusal-requires
 entry_refusal-refusal-requires c = c.requires.0
 
 -- The line is well-formed where the population is known.
-formed-there : (c : After-value-population) → is_state_line (bytes (cut c)) ≡ true
-formed-there c = (sym (formed (goal.at.After-value-population c).After-is_pair) ∙ c.if-not-is_pair.false)
+formed_there : (c : After-value-population) → is_state_line (bytes (cut c)) ≡ true
+formed_there c = (sym (formed (goal.at.After-value-population c).After-is_pair) ∙ c.if-not-is_pair.false)
 
 pub returns-then-refusal-ne0 : goal.returns-then-refusal-ne0
 returns-then-refusal-ne0 c =
     c.refused-then-refusal-ne0.ensures
     ∙ ap line_refused (refusal_is (goal.at.returns-then-refusal-ne0 c).After-entry_refusal-refusal)
     ∙ sym
-    (line_refused_lem _ _ _ _ (formed-there (goal.at.returns-then-refusal-ne0 c).After-value-population)
+    (line_refused_lem _ _ _ _ (formed_there (goal.at.returns-then-refusal-ne0 c).After-value-population)
     (λ good. c.if-refusal-ne0.true (refusal_is (goal.at.returns-then-refusal-ne0 c).After-entry_refusal-refusal ∙ good)))
 
 pub returns : goal.returns
 returns c =
-    line_by_parts _ _ (population-is (goal.at.returns c).After-value-population)
-    (print-is (cut (goal.at.returns c).After-value-population)) (name-is (cut (goal.at.returns c).After-value-population))
+    line_by_parts _ _ (population_is (goal.at.returns c).After-value-population)
+    (print_is (cut (goal.at.returns c).After-value-population)) (name_is (cut (goal.at.returns c).After-value-population))
     c.line_end-end.ensures
-    ∙ sym (line_accepted _ _ _ _ (formed-there (goal.at.returns c).After-value-population)
+    ∙ sym (line_accepted _ _ _ _ (formed_there (goal.at.returns c).After-value-population)
     (sym (refusal_is (goal.at.returns c).After-entry_refusal-refusal) ∙ c.if-refusal-ne0.false))

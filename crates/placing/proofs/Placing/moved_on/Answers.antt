@@ -18,42 +18,42 @@ use Rattle.placing.proofs.Placing.moved_on.Goals as goal
 use Rattle.placing.proofs.Placing.moved_on.Goals.{Start}
 
 -- The arrays of the placing are full.
-full-people : (c : Start) → length c.args.self.populations ≡ state_limit
-full-people c = search rules
+full_people : (c : Start) → length c.args.self.populations ≡ state_limit
+full_people c = search rules
 
-full-seats : (c : Start) → length c.args.self.seats ≡ state_limit
-full-seats c = search rules
+full_seats : (c : Start) → length c.args.self.seats ≡ state_limit
+full_seats c = search rules
 
 -- So they have a place for each state of a genuine placing.
-people-for-all : (c : Start) → Genuine c.args.self → c.args.self.states ≤ length c.args.self.populations
-people-for-all c g = rw (full-people c) (states_fit_lem _ g)
+people_for_all : (c : Start) → Genuine c.args.self → c.args.self.states ≤ length c.args.self.populations
+people_for_all c g = rw (full_people c) (states_fit_lem _ g)
 
-seats-for-all : (c : Start) → Genuine c.args.self → c.args.self.states ≤ length c.args.self.seats
-seats-for-all c g = rw (full-seats c) (states_fit_lem _ g)
+seats_for_all : (c : Start) → Genuine c.args.self → c.args.self.states ≤ length c.args.self.seats
+seats_for_all c g = rw (full_seats c) (states_fit_lem _ g)
 
 pub is_genuine-requires : goal.is_genuine-requires
 is_genuine-requires c =
-    (full-people (goal.at.is_genuine-requires c).Start, full-seats (goal.at.is_genuine-requires c).Start)
+    (full_people (goal.at.is_genuine-requires c).Start, full_seats (goal.at.is_genuine-requires c).Start)
 
 pub slice_bounds-populations-end : goal.slice_bounds-populations-end
 slice_bounds-populations-end c =
     let genuine = genuine_facts _ (sym c.is_genuine.ensures ∙ c.if-is_genuine.true) in
-    people-for-all (goal.at.slice_bounds-populations-end c).Start genuine
+    people_for_all (goal.at.slice_bounds-populations-end c).Start genuine
 
 pub slice_bounds-move_towards-end : goal.slice_bounds-move_towards-end
 slice_bounds-move_towards-end c =
     let genuine = genuine_facts _ (sym c.is_genuine.ensures ∙ c.if-is_genuine.true) in
-    sym (length-take-le _ _ (people-for-all (goal.at.slice_bounds-move_towards-end c).Start genuine))
+    sym (length-take-le _ _ (people_for_all (goal.at.slice_bounds-move_towards-end c).Start genuine))
 
 pub slice_bounds-placed-end : goal.slice_bounds-placed-end
 slice_bounds-placed-end c =
     let genuine = genuine_facts _ (sym c.is_genuine.ensures ∙ c.if-is_genuine.true) in
-    seats-for-all (goal.at.slice_bounds-placed-end c).Start genuine
+    seats_for_all (goal.at.slice_bounds-placed-end c).Start genuine
 
 pub slice_bounds-move_towards-end-then-is_genuine : goal.slice_bounds-move_towards-end-then-is_genuine
 slice_bounds-move_towards-end-then-is_genuine c =
     let genuine = genuine_facts _ (sym c.is_genuine.ensures ∙ c.if-is_genuine.true) in
-    sym (length-take-le _ _ (seats-for-all (goal.at.slice_bounds-move_towards-end-then-is_genuine c).Start genuine))
+    sym (length-take-le _ _ (seats_for_all (goal.at.slice_bounds-move_towards-end-then-is_genuine c).Start genuine))
 
 pub move_towards-requires : goal.move_towards-requires
 unfolding people_of

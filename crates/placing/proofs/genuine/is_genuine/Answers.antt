@@ -14,18 +14,18 @@ use Rattle.placing.proofs.genuine.is_genuine.Goals as goal
 use Rattle.placing.proofs.genuine.is_genuine.Goals.{Start}
 
 -- The lists have as many places as pass the test.
-people-for-all : (c : Start) → c.args.n ≤ state_limit → c.args.n ≤ length c.args.populations.now
-people-for-all c few = rw c.requires.0 few
+people_for_all : (c : Start) → c.args.n ≤ state_limit → c.args.n ≤ length c.args.populations.now
+people_for_all c few = rw c.requires.0 few
 
-seats-for-all : (c : Start) → c.args.n ≤ state_limit → c.args.n ≤ length c.args.seats.now
-seats-for-all c few = rw c.requires.1 few
+seats_for_all : (c : Start) → c.args.n ≤ state_limit → c.args.n ≤ length c.args.seats.now
+seats_for_all c few = rw c.requires.1 few
 
 pub returns-then-n-gt-STATE_LIMIT : goal.returns-then-n-gt-STATE_LIMIT
 returns-then-n-gt-STATE_LIMIT c = sym (not_genuine _ (λ t. omega (arith, t.states_fit, c.if-n-gt-STATE_LIMIT.true)))
 
 pub slice_bounds-open_refusal-end : goal.slice_bounds-open_refusal-end
 slice_bounds-open_refusal-end c =
-    sym (length-take-le _ _ (people-for-all (goal.at.slice_bounds-open_refusal-end c).Start c.if-n-gt-STATE_LIMIT.false))
+    sym (length-take-le _ _ (people_for_all (goal.at.slice_bounds-open_refusal-end c).Start c.if-n-gt-STATE_LIMIT.false))
 
 pub returns-then-open_refusal-ne-ACCEPTED : goal.returns-then-open_refusal-ne-ACCEPTED
 unfolding people_of
@@ -33,15 +33,15 @@ returns-then-open_refusal-ne-ACCEPTED c = sym (not_genuine _ (λ t. c.if-open_re
 
 pub slice_bounds-total_of-end : goal.slice_bounds-total_of-end
 slice_bounds-total_of-end c =
-    sym (length-take-le _ _ (people-for-all (goal.at.slice_bounds-total_of-end c).Start c.if-n-gt-STATE_LIMIT.false))
+    sym (length-take-le _ _ (people_for_all (goal.at.slice_bounds-total_of-end c).Start c.if-n-gt-STATE_LIMIT.false))
 
 pub slice_bounds-agree-end : goal.slice_bounds-agree-end
 slice_bounds-agree-end c =
-    sym (length-take-le _ _ (people-for-all (goal.at.slice_bounds-agree-end c).Start c.if-n-gt-STATE_LIMIT.false))
+    sym (length-take-le _ _ (people_for_all (goal.at.slice_bounds-agree-end c).Start c.if-n-gt-STATE_LIMIT.false))
 
 pub slice_bounds-agree-end-2 : goal.slice_bounds-agree-end-2
 slice_bounds-agree-end-2 c =
-    sym (length-take-le _ _ (seats-for-all (goal.at.slice_bounds-agree-end-2 c).Start c.if-n-gt-STATE_LIMIT.false))
+    sym (length-take-le _ _ (seats_for_all (goal.at.slice_bounds-agree-end-2 c).Start c.if-n-gt-STATE_LIMIT.false))
 
 pub agree-requires : goal.agree-requires
 agree-requires c =

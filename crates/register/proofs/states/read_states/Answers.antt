@@ -36,36 +36,36 @@ good c = sym (refusal_is (goal.at.Else-refusal-ne0 c).After-read_state-line) ∙
 line-is : (c : Else-refusal-ne0) → c.read_state-line.result ≡ line_read (left (goal.at.Else-refusal-ne0 c).After-read_state-line)
 line-is c = c.read_state-line.ensures ∙ line_read_lem _ _ _ _ (good c)
 
-population-is : (c : Else-refusal-ne0) → c.read_state-line.result.population
+population_is : (c : Else-refusal-ne0) → c.read_state-line.result.population
     ≡ number_at (left (goal.at.Else-refusal-ne0 c).After-read_state-line)
 unfolding line_read
-population-is c = ap (λ r. r.population) (line-is c)
+population_is c = ap (λ r. r.population) (line-is c)
 
 width_is : (c : Else-refusal-ne0) → c.read_state-line.result.width
     ≡ length (name_at (left (goal.at.Else-refusal-ne0 c).After-read_state-line))
 unfolding line_read
 width_is c = ap (λ r. r.width) (line-is c)
 
-line-sound :
+line_sound :
     (c : Else-refusal-ne0)
     → let l = c.loop-k in
     StateSound (all_lines (goal.at.Else-refusal-ne0 c).After-read_state-line) l.k l.sum
     (left (goal.at.Else-refusal-ne0 c).After-read_state-line)
-line-sound c = state_sound _ _ _ _ (good c)
+line_sound c = state_sound _ _ _ _ (good c)
 
 -- The name of the turn's line ends within the register, whose places fit 32 bits.
-place-fits :
+place_fits :
     (c : Else-refusal-ne0)
     → length (all_lines (goal.at.Else-refusal-ne0 c).After-read_state-line) - length
     (left (goal.at.Else-refusal-ne0 c).After-read_state-line) + c.read_state-line.result.width ≤ register_limit
-place-fits c = omega (arith, c.requires.1, width_is c, next_fits _ _ (kept_end c.loop-k.invariant.3))
+place_fits c = omega (arith, c.requires.1, width_is c, next_fits _ _ (kept_end c.loop-k.invariant.3))
 
 -- The two lists keep their lengths.
-starts-kept : (c : At-loop-k) → length c.loop-k.starts ≡ length c.args.starts.now
-starts-kept c = c.loop-k.invariant.3.names.places.room.0 ∙ sym c.requires.2.for_starts
+starts_kept : (c : At-loop-k) → length c.loop-k.starts ≡ length c.args.starts.now
+starts_kept c = c.loop-k.invariant.3.names.places.room.0 ∙ sym c.requires.2.for_starts
 
-ends-kept : (c : At-loop-k) → length c.loop-k.ends ≡ length c.args.ends.now
-ends-kept c = c.loop-k.invariant.3.names.places.room.1 ∙ sym c.requires.2.for_ends
+ends_kept : (c : At-loop-k) → length c.loop-k.ends ≡ length c.args.ends.now
+ends_kept c = c.loop-k.invariant.3.names.places.room.1 ∙ sym c.requires.2.for_ends
 
 pub loop-k-init : goal.loop-k-init
 unfolding states_of no_populations
@@ -119,7 +119,7 @@ pub overflow_sub-start : goal.overflow_sub-start
 overflow_sub-start c = omega (arith, (kept_end c.loop-k.invariant.3).shorter)
 
 pub overflow_cast-starts : goal.overflow_cast-starts
-overflow_cast-starts c = omega (arith, place-fits (goal.at.overflow_cast-starts c).Else-refusal-ne0)
+overflow_cast-starts c = omega (arith, place_fits (goal.at.overflow_cast-starts c).Else-refusal-ne0)
 
 pub offset_bounds-starts-k : goal.offset_bounds-starts-k
 offset_bounds-starts-k c = omega (arith, c.loop-k.invariant.0)
@@ -129,10 +129,10 @@ bounds-starts-k c =
     omega (arith, c.loop-k.invariant.0, c.loop-k.invariant.3.names.places.room.0)
 
 pub overflow_add-ends : goal.overflow_add-ends
-overflow_add-ends c = omega (arith, place-fits (goal.at.overflow_add-ends c).Else-refusal-ne0)
+overflow_add-ends c = omega (arith, place_fits (goal.at.overflow_add-ends c).Else-refusal-ne0)
 
 pub overflow_cast-ends : goal.overflow_cast-ends
-overflow_cast-ends c = omega (arith, place-fits (goal.at.overflow_cast-ends c).Else-refusal-ne0)
+overflow_cast-ends c = omega (arith, place_fits (goal.at.overflow_cast-ends c).Else-refusal-ne0)
 
 pub offset_bounds-ends-k : goal.offset_bounds-ends-k
 offset_bounds-ends-k c = omega (arith, c.loop-k.invariant.0)
@@ -145,8 +145,8 @@ pub overflow_add-sum : goal.overflow_add-sum
 overflow_add-sum c =
     omega (
       arith,
-      population-is (goal.at.overflow_add-sum c).Else-refusal-ne0,
-      (line-sound (goal.at.overflow_add-sum c).Else-refusal-ne0).fits,
+      population_is (goal.at.overflow_add-sum c).Else-refusal-ne0,
+      (line_sound (goal.at.overflow_add-sum c).Else-refusal-ne0).fits,
     )
 
 pub overflow_add-k-in-loop-k : goal.overflow_add-k-in-loop-k
@@ -166,15 +166,15 @@ loop-k-preserved c = (
   omega arith,
   omega (
     arith,
-    population-is (goal.at.loop-k-preserved c).Else-refusal-ne0,
-    (line-sound (goal.at.loop-k-preserved c).Else-refusal-ne0).fits,
+    population_is (goal.at.loop-k-preserved c).Else-refusal-ne0,
+    (line_sound (goal.at.loop-k-preserved c).Else-refusal-ne0).fits,
   ),
   kept_more _ _ _ _ _ _ _ _ _ c.loop-k.invariant.3 (omega (arith, c.loop-k.invariant.0)) c.rest_from-u.ensures
       (ap (λ r. r.print) (line-is (goal.at.loop-k-preserved c).Else-refusal-ne0)) (width_is (goal.at.loop-k-preserved c).Else-refusal-ne0),
   c.loop-k.invariant.4
       ∙ states_passed _ _ _ (c.args.head.states - (c.loop-k.k + 1)) _ _ _ _ (omega arith)
       (good (goal.at.loop-k-preserved c).Else-refusal-ne0)
-      ∙ same_left _ _ _ _ _ c.loop-k.populations (sym (population-is (goal.at.loop-k-preserved c).Else-refusal-ne0))
+      ∙ same_left _ _ _ _ _ c.loop-k.populations (sym (population_is (goal.at.loop-k-preserved c).Else-refusal-ne0))
       (sym c.rest_from-u.ensures),
 )
 
@@ -182,10 +182,10 @@ pub close-requires : goal.close-requires
 close-requires c = c.loop-k.invariant.0
 
 pub shape_of-starts : goal.shape_of-starts
-shape_of-starts c = starts-kept (goal.at.shape_of-starts c).At-loop-k
+shape_of-starts c = starts_kept (goal.at.shape_of-starts c).At-loop-k
 
 pub shape_of-ends : goal.shape_of-ends
-shape_of-ends c = ends-kept (goal.at.shape_of-ends c).At-loop-k
+shape_of-ends c = ends_kept (goal.at.shape_of-ends c).At-loop-k
 
 pub returns : goal.returns
 returns c =

@@ -12,8 +12,8 @@ loop-i-init c = (omega arith, omega (arith, c.requires.some_state), refl)
 
 pub better_of-best-requires : goal.better_of-best-requires
 better_of-best-requires c =
-    let best-lt = first_so_far_lt _ _ c.requires c.loop-i.invariant.1 c.loop-i.invariant.2 in
-    record { all = c.requires; one = best-lt; other = c.loop-i-test.true }
+    let best_lt = first_so_far_lt _ _ c.requires c.loop-i.invariant.1 c.loop-i.invariant.2 in
+    record { all = c.requires; one = best_lt; other = c.loop-i-test.true }
 
 pub loop-i-preserved : goal.loop-i-preserved
 loop-i-preserved c =

@@ -16,9 +16,9 @@ returns-then-own_seats-eq0 c =
 pub returns-then-other_seats-eq0 : goal.returns-then-other_seats-eq0
 unfolding gives_up_before
 returns-then-other_seats-eq0 c =
-    let own-some = lt-ltb 0 (get_or c.args.seats.now c.args.i 0) (omega arith) in
+    let own_some = lt-ltb 0 (get_or c.args.seats.now c.args.i 0) (omega arith) in
     let other_none = le-ltb 0 (get_or c.args.seats.now c.args.j 0) (omega arith) in
-    simp (own-some, other_none)
+    simp (own_some, other_none)
 
 pub claim_of-own-requires : goal.claim_of-own-requires
 claim_of-own-requires c =
@@ -31,6 +31,6 @@ claim_of-other-requires c =
 pub returns : goal.returns
 unfolding gives_up_before divisor_test claim_for held less
 returns c =
-    let own-some = lt-ltb 0 (get_or c.args.seats.now c.args.i 0) (omega arith) in
-    let other-some = lt-ltb 0 (get_or c.args.seats.now c.args.j 0) (omega arith) in
-    simp (own-some, other-some) (rw (c.claim_less.ensures, c.claim_of-own.ensures, c.claim_of-other.ensures))
+    let own_some = lt-ltb 0 (get_or c.args.seats.now c.args.i 0) (omega arith) in
+    let other_some = lt-ltb 0 (get_or c.args.seats.now c.args.j 0) (omega arith) in
+    simp (own_some, other_some) (rw (c.claim_less.ensures, c.claim_of-own.ensures, c.claim_of-other.ensures))
