@@ -9,16 +9,16 @@ ghost use Rattle.apportionment.specs.inner.Problem.{Problem, Fillable};
 ghost use Rattle.agreement.specs.inner.Agreement.{steps_agree, seats_agree, agreeing};
 
 use crate::lists::each_within;
-use leximin::settle::ends_apart;
-use leximin::start::{is_start, start_total};
+use leximin::house::House;
 use problem::total_of;
 
 // The steps are no more than the gap, and the total is the one that they lead to.
-fn steps_agree(populations: &[u64], sum: u64, house: u64, total: u64, steps: u64) -> bool
-    requires { Problem populations.now sum house }
-    ensures { result ≡ steps_agree populations.now house total steps }
+fn steps_agree(own: &House, total: u64, steps: u64) -> bool
+    requires { Problem own.now.populations.now own.now.total own.now.house }
+    ensures { result ≡ steps_agree own.now.populations.now own.now.house total steps }
 {
-    let begun = start_total(populations, sum, house);
+    let begun = own.start_total();
+    let house = own.house;
     if begun < house {
         if house - begun < steps {
             return false;
@@ -32,39 +32,33 @@ fn steps_agree(populations: &[u64], sum: u64, house: u64, total: u64, steps: u64
 }
 
 // The seats are the leximin allotment for the total, as their two ends tell.
-fn seats_agree(populations: &[u64], seats: &[u64], sum: u64, house: u64, total: u64) -> bool
-    requires { Fillable populations.now sum house seats.now }
-    ensures { result ≡ seats_agree populations.now seats.now house total }
+fn seats_agree(own: &House, seats: &[u64], total: u64) -> bool
+    requires { Fillable own.now.populations.now own.now.total own.now.house seats.now }
+    ensures { result ≡ seats_agree own.now.populations.now seats.now own.now.house total }
 {
     if total_of(seats) != total {
         return false;
     }
-    if each_within(seats, house) {
-        return ends_apart(populations, seats, sum, house);
+    if each_within(seats, own.house) {
+        return own.ends_apart(seats);
     }
     false
 }
 
 // The steps, the total and the seats agree. Of a placing just opened it is cheaper to hold each state's seats to its nearest ones.
-pub fn agree(
-    populations: &[u64],
-    seats: &[u64],
-    sum: u64,
-    house: u64,
-    total: u64,
-    steps: u64,
-) -> bool
-    requires { Fillable populations.now sum house seats.now × (length populations.now ≤ house) }
-    ensures { result ≡ agreeing populations.now seats.now house total steps }
+pub fn agree(own: &House, seats: &[u64], total: u64, steps: u64) -> bool
+    requires { Fillable own.now.populations.now own.now.total own.now.house seats.now
+        × (length own.now.populations.now ≤ own.now.house) }
+    ensures { result ≡ agreeing own.now.populations.now seats.now own.now.house total steps }
 {
     if steps == 0 {
-        if is_start(populations, sum, house, seats) {
+        if own.is_start(seats) {
             return total_of(seats) == total;
         }
         return false;
     }
-    if steps_agree(populations, sum, house, total, steps) {
-        return seats_agree(populations, seats, sum, house, total);
+    if steps_agree(own, total, steps) {
+        return seats_agree(own, seats, total);
     }
     false
 }

@@ -12,7 +12,8 @@ use contract.Lifetimes.{Lfts}
 use denote.Triple.Clauses.{AtExit}
 use borrow.Fn.Kinds.{Dens, ended_of}
 use Rattle.apportionment.specs.Lists.{sum, first_place, among, count_below, list_of}
-use Rattle.apportionment.specs.Refusals.{accepted}
+use Rattle.std.specs.Prelude.{Result}
+use Rattle.apportionment.specs.Refusals.{accepted, refusal_of}
 use Rattle.apportionment.specs.Refusals.{within, outside, first_refusal}
 use Rattle.apportionment.specs.Quantities.{less, at_most, distance, size_of}
 use Rattle.apportionment.specs.Leximin.{sizes_of, insert, largest_first, list_less, more_at_first, size_list, chosen_before, with_first}
@@ -37,7 +38,7 @@ use Rattle.allot.specs.Allot.{AllotmentIs}
 use Rattle.allot.proofs.allot.Reads as allot-reads
 use Rattle.allot.proofs.allot.Kinds as allot-kinds
 use Rattle.allot.specs.inner.Allot.{seats_unless_refused}
-use Rattle.allot.specs.declared.Allotted.{Allotted}
+use Rattle.apportionment.specs.declared.refusals.Refusal.{Refusal}
 
 -- ---- by the definitions
 
@@ -96,7 +97,7 @@ pub record Run (m : Method) (H : ℕ) (ps seats : List ℕ) : Type 0 where
   pub lasting : Lfts 2
   pub given : Dens lasting allot-kinds.ps
   pub ended : AtExit (ended_of 2 allot-kinds.ps allot-kinds.r) lasting
-  pub answer : Allotted
+  pub answer : Result ℕ Refusal
   -- It was given m, H and ps, and left the seats in the other list.
   pub method : given.0 ≡ m
   pub house : given.1.0 ≡ H
@@ -104,7 +105,7 @@ pub record Run (m : Method) (H : ℕ) (ps seats : List ℕ) : Type 0 where
   pub left : ended.1.1.1.0.now ≡ seats
   -- Its contract holds, and the answer is no refusal.
   pub contract : allot-reads.Post lasting given answer ended
-  pub accepts : answer.refusal ≡ accepted
+  pub accepts : refusal_of answer ≡ accepted
 
 -- So the method accepts, and the seats left are its own.
 run_allots : {m : Method} {H : ℕ} {ps xs : List ℕ} → Run m H ps xs → Allots m H ps xs

@@ -7,7 +7,8 @@ use mathlib.Core.List.{List}
 use Prim.Native.Nat.{ℕ, suc, ◌<◌, ◌≤◌}
 use lib.ListN.{length, get_or}
 use Rattle.apportionment.specs.Lists.{sum}
-use Rattle.apportionment.specs.Refusals.{accepted}
+use Rattle.std.specs.Prelude.{Result}
+use Rattle.apportionment.specs.Refusals.{accepted, refusal_of}
 use Rattle.apportionment.specs.Allotment.{seats_of}
 use Rattle.apportionment.specs.Quota.{able, quota_seats, WithinQuota}
 use Rattle.apportionment.specs.declared.Method.TheVariants.{Quota}
@@ -16,7 +17,7 @@ use Rattle.quota.specs.inner.Serving.{Peopled, problem_peopled}
 use Rattle.quota.specs.inner.Quota.{quota_kept, some_able}
 use Rattle.allot.specs.Allot.{AllotmentIs}
 use Rattle.allot.specs.inner.Allot.{seats_unless_refused}
-use Rattle.allot.specs.declared.Allotted.{Allotted}
+use Rattle.apportionment.specs.declared.refusals.Refusal.{Refusal}
 
 -- Every state has its quota of the house; it had its quota of h seats after each seat h on the way; and some state was able to have each
 -- seat, the one numbered h + 1 after the one numbered h.
@@ -27,8 +28,8 @@ pub record QuotaKept (ps : List ℕ) (H : ℕ) (seats : List ℕ) : Type 0 where
   pub one_able : (h : ℕ) → h < H → (i : ℕ) × (i < length ps) × (able ps (suc h) (quota_seats ps h) i ≡ true)
 
 -- An allotment by quota that was not refused keeps it.
-pub allotted_keeps_quota : {H : ℕ} {ps before after : List ℕ} {r : Allotted} → AllotmentIs Quota H ps before after r
-    → r.refusal ≡ accepted → QuotaKept ps H after
+pub allotted_keeps_quota : {H : ℕ} {ps before after : List ℕ} {r : Result ℕ Refusal} → AllotmentIs Quota H ps before after r
+    → refusal_of r ≡ accepted → QuotaKept ps H after
 unfolding seats_of
 allotted_keeps_quota {H} {ps} {before} {after} {r} promise none =
     let given = seats_unless_refused promise none in

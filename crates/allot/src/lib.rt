@@ -9,20 +9,13 @@ ghost use Rattle.allot.specs.inner.Allot.{Filled};
 ghost use Rattle.allot.specs.inner.Ways.{way_of};
 ghost use Rattle.allot.specs.Allot.{AllotmentIs};
 
-use apportionment::refusals::ACCEPTED;
+use apportionment::refusals::Refusal;
 use apportionment::{DivisorMethod, Method};
 use divisor::fill::fill_divisor;
 use leximin::settle::fill_leximin;
-use problem::{allot_refusal, total_of};
+use problem::{check_allotting, total_of};
 use quota::fill_quota;
 use remainders::fill_remainders;
-
-// The number of the refusal, or 0, and the steps from the start to the house under leximin, 0 under the other methods.
-#[derive(Clone, Copy)]
-pub struct Allotted {
-    pub refusal: u64,
-    pub steps: u64,
-}
 
 // How a method allots: in a way of its own, or as a divisor method.
 #[derive(Clone, Copy)]
@@ -72,16 +65,17 @@ fn fill_seats(method: Method, populations: &[u64], total: u64, house: u64, seats
     }
 }
 
-// Allots a house: refusals 10 to 15 in this order, each given exactly when its check is the first to fail; a refusal leaves the seat list
-// as it was and allots nothing.
-pub fn allot(method: Method, house: u64, populations: &[u64], seats: &mut [u64]) -> Allotted
+// Allots a house and answers the steps from the start to the house under leximin, 0 under the other methods: refusals 10 to 15 in this
+// order, each given exactly when its check is the first to fail; a refusal leaves the seat list as it was and allots nothing.
+pub fn allot(
+    method: Method,
+    house: u64,
+    populations: &[u64],
+    seats: &mut [u64],
+) -> Result<u64, Refusal>
     ensures { AllotmentIs method house populations.now seats.old seats.new result }
 {
-    let refusal = allot_refusal(method, house, populations, seats.len());
-    if refusal != ACCEPTED {
-        return Allotted { refusal, steps: 0 };
-    }
+    check_allotting(method, house, populations, seats.len())?;
     let total = total_of(populations);
-    let steps = fill_seats(method, populations, total, house, seats);
-    Allotted { refusal, steps }
+    Ok(fill_seats(method, populations, total, house, seats))
 }

@@ -3,16 +3,11 @@
 // part is not listed: it would look like one that was cut short.
 #![tactic(auto)]
 
-fn print_listing(rt: &(impl Print + Eprint), register: &[u8]) {
-    let mut page = [0u8; listing::LISTING_ROOM];
-    let size = listing::print(register, &mut page);
-    streams::print(rt, &page[..size]);
-}
+use listing::LISTING_ROOM;
+
+const USAGE: &[u8] = b"usage: allotment [REGISTER]\n";
 
 fn main(rt: HostRuntime) {
-    let mut register = [0u8; streams::REGISTER_ROOM];
-    let input = streams::read_register(&rt, b"usage: allotment [REGISTER]\n", &mut register);
-    if input.whole {
-        print_listing(&rt, &register[..input.length]);
-    }
+    // What failed was told, and the program ends as ever.
+    let _ = streams::answer_register(&rt, USAGE, &mut [0u8; LISTING_ROOM], listing::print);
 }

@@ -9,7 +9,7 @@ ghost use Rattle.std.specs.Prelude.{◌≡◌};
 ghost use Rattle.apportionment.specs.Refusals.{within, outside};
 
 // The eight methods, in the order in which document 01 names them; quota joined them last.
-#[derive(Clone, Copy)]
+#[derive(Clone, Copy, Debug, PartialEq, Eq, Hash)]
 pub enum Method {
     Leximin,
     Adams,
@@ -22,7 +22,7 @@ pub enum Method {
 }
 
 // The five of them that meet claims in order by signposts d(a).
-#[derive(Clone, Copy)]
+#[derive(Clone, Copy, Debug, PartialEq, Eq, Hash)]
 pub enum DivisorMethod {
     Adams,
     Dean,
@@ -32,7 +32,7 @@ pub enum DivisorMethod {
 }
 
 // How far a state's departure goes; None where the state has no seat.
-#[derive(Clone, Copy)]
+#[derive(Clone, Copy, Debug, PartialEq, Eq, Hash)]
 pub enum Mark {
     In,
     High,
@@ -53,10 +53,7 @@ pub const REGISTER_LIMIT: usize = 65_536;
 pub fn within(limit: u64, number: u64) -> bool
     ensures { result ≡ within limit number }
 {
-    if number == 0 {
-        return false;
-    }
-    number <= limit
+    (1..=limit).contains(&number)
 }
 
 pub fn outside(limit: u64, number: u64) -> bool

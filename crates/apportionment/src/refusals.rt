@@ -1,40 +1,55 @@
-// The refusal numbers of document 01, each also named in specs/Refusals.antt. 0 is no refusal.
+// Why an operation refuses what it was given, each reason by its number of document 01; specs/Refusals.antt names the numbers.
+ghost use Rattle.std.specs.Prelude.{◌≡◌};
+ghost use Rattle.apportionment.specs.Refusals.{refusal_number};
+
+#[derive(Clone, Copy, Debug, PartialEq, Eq, Hash)]
+pub enum Refusal {
+    // Reading a register.
+    RegisterTooLong = 1,
+    LineIllFormed = 2,
+    NumberOutOfLimits = 3,
+    MethodUnknown = 4,
+    NameUsed = 5,
+    RunningSumTooLarge = 6,
+    TotalDiffers = 7,
+    // Allotting and opening.
+    StatesOutOfLimits = 10,
+    HouseOutOfLimits = 11,
+    PopulationZero = 12,
+    SumTooLarge = 13,
+    SeatListLength = 14,
+    HouseBelowStates = 15,
+    // Moving a placing.
+    PlacingForeign = 21,
+    // Departure, listing, name.
+    DepartureOutOfLimits = 30,
+    BufferTooShort = 31,
+    PlaceOutOfStates = 40,
+}
+
+impl Refusal {
+    // Its number.
+    pub fn number(self) -> u64
+        ensures { result ≡ refusal_number self }
+    {
+        self as u64
+    }
+}
+
+// A refusal and the line of the register that is at fault, counted from 1; 0 where no line is.
+#[derive(Clone, Copy, Debug, PartialEq, Eq, Hash)]
+pub struct Refused {
+    pub refusal: Refusal,
+    pub line: u64,
+}
+
+impl From<Refusal> for Refused {
+    ghost from_gives = { λ refusal refused. refused ≡ record { refusal = refusal; line = 0 } };
+
+    fn from(refusal: Refusal) -> Refused {
+        Refused { refusal, line: 0 }
+    }
+}
+
+// No refusal, where C is handed a number.
 pub const ACCEPTED: u64 = 0;
-
-// Reading a register.
-pub const REGISTER_TOO_LONG: u64 = 1;
-
-pub const LINE_ILL_FORMED: u64 = 2;
-
-pub const NUMBER_OUT_OF_LIMITS: u64 = 3;
-
-pub const METHOD_UNKNOWN: u64 = 4;
-
-pub const NAME_USED: u64 = 5;
-
-pub const RUNNING_SUM_TOO_LARGE: u64 = 6;
-
-pub const TOTAL_DIFFERS: u64 = 7;
-
-// Allotting and opening.
-pub const STATES_OUT_OF_LIMITS: u64 = 10;
-
-pub const HOUSE_OUT_OF_LIMITS: u64 = 11;
-
-pub const POPULATION_ZERO: u64 = 12;
-
-pub const SUM_TOO_LARGE: u64 = 13;
-
-pub const SEAT_LIST_LENGTH: u64 = 14;
-
-pub const HOUSE_BELOW_STATES: u64 = 15;
-
-// Moving a placing.
-pub const PLACING_FOREIGN: u64 = 21;
-
-// Departure, listing, name.
-pub const DEPARTURE_OUT_OF_LIMITS: u64 = 30;
-
-pub const BUFFER_TOO_SHORT: u64 = 31;
-
-pub const PLACE_OUT_OF_STATES: u64 = 40;

@@ -4,88 +4,15 @@
 
 ghost use Rattle.std.specs.Prelude.{◌≡◌, ◌≤◌, ◌<◌, min, max, length};
 ghost use Rattle.bar.specs.inner.Reaching.{reaching};
-ghost use Rattle.bar.specs.inner.Search.{NotBelow, NotAbove, DrawnUp, DrawnDown, HoldsBar, Narrower, Searchable, BarFound};
+ghost use Rattle.bar.specs.inner.Search.{DrawnUp, DrawnDown, HoldsBar, Narrower, Searchable, BarFound};
 
-// The lesser and the greater of two.
-pub fn lesser(a: u64, b: u64) -> u64
-    ensures { result ≡ min a b }
-{
-    if a < b {
-        return a;
-    }
-    b
-}
-
-pub fn greater(a: u64, b: u64) -> u64
-    ensures { result ≡ max a b }
-{
-    if a < b {
-        return b;
-    }
-    a
-}
+use std::cmp::{max, min};
 
 // How many states have a precedence of `least` or more.
 fn reaching(precedences: &[u64], least: u64) -> u64
     ensures { result ≡ reaching precedences.now least (length precedences.now) }
 {
-    let mut count: u64 = 0;
-    let mut j = 0;
-    while j < precedences.len() {
-        if least <= precedences[j] {
-            count += 1;
-        }
-        j += 1;
-    }
-    count
-}
-
-// `own` where it is `low` or more, and `none` otherwise: apart from `lesser`, so that this is worked out for several states at once.
-fn not_below(own: u64, low: u64, none: u64) -> u64
-    ensures { NotBelow own low none result }
-{
-    if own < low {
-        return none;
-    }
-    own
-}
-
-// `own` where it is `high` or less, and `none` otherwise.
-fn not_above(own: u64, high: u64, none: u64) -> u64
-    ensures { NotAbove own high none result }
-{
-    if high < own {
-        return none;
-    }
-    own
-}
-
-// The least precedence from `low` to `high`, or `high` where there is none: no state is at `low` or above it and below the answer.
-fn drawn_up(precedences: &[u64], low: u64, high: u64) -> u64
-    requires { low ≤ high }
-    ensures { DrawnUp precedences.now low high (length precedences.now) result }
-{
-    let mut best = high;
-    let mut j = 0;
-    while j < precedences.len() {
-        best = lesser(best, not_below(precedences[j], low, high));
-        j += 1;
-    }
-    best
-}
-
-// The greatest precedence from `low` to `high`, or `low` where there is none: no state is above the answer and at `high` or below.
-fn drawn_down(precedences: &[u64], low: u64, high: u64) -> u64
-    requires { low ≤ high }
-    ensures { DrawnDown precedences.now low high (length precedences.now) result }
-{
-    let mut best = low;
-    let mut j = 0;
-    while j < precedences.len() {
-        best = greater(best, not_above(precedences[j], high, low));
-        j += 1;
-    }
-    best
+    precedences.iter().map(|own| u64::from(least <= *own)).sum()
 }
 
 // Where the bar lies: from `low` to `high`, with so many states above `high`. The other two only say whether drawing an end in pays, and no
@@ -99,27 +26,39 @@ pub struct Range {
     pub from: u64,
 }
 
-// The lower end of what is left of a range: `low`, or drawn in where no state was cut off, or few at first, so that equal precedences do
-// not keep the ends apart.
+// The lower end of what is left of a range: `low` or, where no state was cut off or few at first, the least precedence from `low` to
+// `high`, and `high` where there is none, so that equal precedences do not keep the ends apart. No state is at `low` or above it and below
+// the answer.
 fn lower_end(precedences: &[u64], low: u64, high: u64, loose: bool) -> u64
     requires { low ≤ high }
     ensures { DrawnUp precedences.now low high (length precedences.now) result }
 {
-    if loose {
-        return drawn_up(precedences, low, high);
+    if !loose {
+        return low;
     }
-    low
+    let mut best = high;
+    for &own in precedences {
+        let end = if own < low { high } else { own };
+        best = min(best, end);
+    }
+    best
 }
 
-// The upper end, in the same way.
+// The upper end, in the same way from above. The two stand apart: one function with a direction, or with closures for the comparisons,
+// would be no plainer.
 fn upper_end(precedences: &[u64], low: u64, high: u64, loose: bool) -> u64
     requires { low ≤ high }
     ensures { DrawnDown precedences.now low high (length precedences.now) result }
 {
-    if loose {
-        return drawn_down(precedences, low, high);
+    if !loose {
+        return high;
     }
-    high
+    let mut best = low;
+    for &own in precedences {
+        let end = if high < own { low } else { own };
+        best = max(best, end);
+    }
+    best
 }
 
 // What is left of a range that is parted at `middle`: `middle` itself where just `left` states are above it.

@@ -7,6 +7,7 @@ pub mod Fractions
 pub mod Standing
 pub mod Tournament
 pub mod TournamentReplay
+pub mod TournamentEntries
 pub mod TournamentOrders
 pub mod Moves
 pub mod DivisorClaims

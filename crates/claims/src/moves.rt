@@ -8,7 +8,8 @@ pub fn moved(up: bool, seats: u64) -> u64
     ensures { result ≡ moved_by up seats }
 {
     if up {
-        return seats + 1;
+        seats + 1
+    } else {
+        seats.saturating_sub(1)
     }
-    if seats == 0 { 0 } else { seats - 1 }
 }

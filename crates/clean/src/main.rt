@@ -3,16 +3,11 @@
 // part is not copied: its copy would look like that of one that was cut short.
 #![tactic(auto)]
 
-fn print_clean(rt: &(impl Print + Eprint), register: &[u8]) {
-    let mut page = [0u8; cleaning::CLEAN_ROOM];
-    let size = cleaning::print(register, &mut page);
-    streams::print(rt, &page[..size]);
-}
+use cleaning::CLEAN_ROOM;
+
+const USAGE: &[u8] = b"usage: clean [REGISTER]\n";
 
 fn main(rt: HostRuntime) {
-    let mut register = [0u8; streams::REGISTER_ROOM];
-    let input = streams::read_register(&rt, b"usage: clean [REGISTER]\n", &mut register);
-    if input.whole {
-        print_clean(&rt, &register[..input.length]);
-    }
+    // What failed was told, and the program ends as ever.
+    let _ = streams::answer_register(&rt, USAGE, &mut [0u8; CLEAN_ROOM], cleaning::print);
 }

@@ -1,7 +1,7 @@
 -- The four laws of clean copies: what an office may rely on that hands registers on. First by the definitions, of any registers that
 -- reading does not refuse; then of any runs of the operation that were not refused, by its contract.
 -- Assumes nothing.
-use mathlib.Core.Path.{◌≡◌, sym, ap, ◌∙◌}
+use mathlib.Core.Path.{◌≡◌, refl, sym, ap, ◌∙◌}
 use mathlib.Core.List.{List}
 use Prim.Native.Nat.{ℕ, ◌<◌, ◌≤◌}
 use native.Mathlib.Omega.{arith}
@@ -15,11 +15,12 @@ use Rattle.apportionment.specs.Refusals.{accepted}
 use Rattle.apportionment.specs.inner.Tests.{either_way}
 use Rattle.register.specs.Register.{reading_of, populations_in}
 use Rattle.register.specs.Register.{name_of}
-use Rattle.register.specs.declared.Reading.{Reading}
+use Rattle.register.specs.Register.{ReadingOutcome}
 use Rattle.register.specs.inner.Sound.{reading_sound, name_none}
 use Rattle.register.specs.inner.Written.{reading_writable, read_count, read_with}
+use Rattle.handover.specs.Handover.{written_in}
 use Rattle.handover.specs.inner.Handover.{written_unless_refused}
-use Rattle.handover.specs.declared.Written.{Written}
+use Rattle.std.specs.Prelude.{Ok}
 use Rattle.cleaning.specs.Clean.{no_tail, clean_in, clean_of, CleanIs, Agree}
 use Rattle.cleaning.specs.inner.Stored.{stored_agree}
 use Rattle.cleaning.specs.inner.Back.{reads_back, names_back}
@@ -70,8 +71,8 @@ clean_twice s good = agree_equal (clean_agrees s good)
     clean_agrees : (s : List ℕ) → IsAccepted s → Agree (clean_of s) s
     clean_agrees s good =
         record {
-          method = ap (λ (r : Reading). r.method) (clean_is_read s good);
-          house = ap (λ (r : Reading). r.house) (clean_is_read s good);
+          method = ap (λ (r : ReadingOutcome). r.method) (clean_is_read s good);
+          house = ap (λ (r : ReadingOutcome). r.house) (clean_is_read s good);
           populations = ap populations_in (clean_is_read s good);
           names = clean_names s good;
         }
@@ -85,8 +86,8 @@ clean_equal s t good fine = (agree, agree_equal)
     agree same =
         let read : reading_of s ≡ reading_of t = sym (clean_is_read s good) ∙ ap reading_of same ∙ clean_is_read t fine in
         record {
-          method = ap (λ (r : Reading). r.method) read;
-          house = ap (λ (r : Reading). r.house) read;
+          method = ap (λ (r : ReadingOutcome). r.method) read;
+          house = ap (λ (r : ReadingOutcome). r.house) read;
           populations = ap populations_in read;
           names = λ place. sym (clean_names s good place) ∙ ap (λ (x : List ℕ). name_of x place) same ∙ clean_names t fine place;
         }
@@ -95,23 +96,22 @@ clean_equal s t good fine = (agree, agree_equal)
 
 -- One run of cleaning that was not refused: by its contract, given these bytes, it left this copy.
 pub record Run (s copy : List ℕ) : Type 0 where
-  -- The run as its contract has it: for how long the two lists are lent, what is given, what stands there at the end, the answer.
+  -- The run as its contract has it: for how long the two lists are lent, what is given, what stands there at the end, the length answered.
   pub lasting : Lfts 2
   pub given : Dens lasting clean-kinds.ps
   pub ended : AtExit (ended_of 2 clean-kinds.ps clean-kinds.r) lasting
-  pub answer : Written
+  pub size : ℕ
   -- It was given s, and left the copy at the front of the other list.
   pub register : given.0.now ≡ s
-  pub left : take answer.size ended.1.0.now ≡ copy
-  -- Its contract holds, and the answer is no refusal.
-  pub contract : clean-reads.Post lasting given answer ended
-  pub accepts : answer.refusal ≡ accepted
+  pub left : take size ended.1.0.now ≡ copy
+  -- Its contract holds of that answer, which is no refusal.
+  pub contract : clean-reads.Post lasting given (Ok size) ended
 
 -- So the register is accepted, and the copy left is its clean form.
 run_cleans : {s copy : List ℕ} → Run s copy → (IsAccepted s) × (copy ≡ clean_of s)
 run_cleans {s} {copy} run =
-    let promise : CleanIs s run.given.1.0.now run.answer run.ended.1.0.now = rw run.register at run.contract in
-    let whole = written_unless_refused promise run.accepts in
+    let promise : CleanIs s run.given.1.0.now (written_in (Ok run.size)) run.ended.1.0.now = rw run.register at run.contract in
+    let whole = written_unless_refused promise refl in
     (whole.0, sym run.left ∙ whole.1)
 
 module _ {s copy : List ℕ} (run : Run s copy) where

@@ -1,9 +1,9 @@
 -- A register as it is written, where a state's line may have more after its population: its tail; and W-204, the clean form of a register.
 use Rattle.std.specs.Prelude.{◌∷◌, ◌++◌, ◌≡◌, List, [], ℕ, suc, length}
 use Rattle.apportionment.specs.{Lists.sum, Text.bytes_of, Text.decimal, declared.Method.Method}
-use Rattle.register.specs.{Register.reading_of, Register.populations_in, Register.name_of, declared.Reading.Reading}
+use Rattle.register.specs.{Register.reading_of, Register.populations_in, Register.name_of, Register.ReadingOutcome}
 use Rattle.text.specs.Shared.{head_line}
-use Rattle.handover.specs.{Handover.written_of, Handover.WritingIs, Handover.printed_of, declared.Written.Written}
+use Rattle.handover.specs.{Handover.written_of, Handover.WritingIs, Handover.printed_of, Handover.Written}
 
 unfoldable pub pair_line : (word : List ℕ) (number : ℕ) (tail : List ℕ) → List ℕ  -- A state's name and population, or `total` and the sum.
 pair_line word number tail = word ++ bytes_of "," ++ decimal number ++ tail ++ bytes_of "\n"
@@ -18,7 +18,7 @@ stored_text word m H name tail ps = head_line word m H (length ps) ++ state_line
 abbrev pub no_tail : ℕ → List ℕ  -- A register's states have no tails.
 no_tail k = []
 
-unfoldable pub clean_in : Reading → (name : ℕ → List ℕ) → List ℕ  -- The clean form of what was read, with the states' names.
+unfoldable pub clean_in : ReadingOutcome → (name : ℕ → List ℕ) → List ℕ  -- The clean form of what was read, with the states' names.
 clean_in r name = stored_text (bytes_of "register") r.method r.house name no_tail (populations_in r)
 
 unfoldable pub clean_of : (register : List ℕ) → List ℕ  -- The clean form of a register that reading does not refuse.

@@ -1,11 +1,10 @@
 -- Document 01, "Operations and their refusals": the departure operation, each answer in the document's terms, and the promise.
-use Rattle.std.specs.Prelude.{◌≡◌, ◌∷◌, cond, [], ℕ, eqb, ltb, ℤ}
+use Rattle.std.specs.Prelude.{◌≡◌, ◌∷◌, cond, [], ℕ, eqb, ltb, ℤ, Option as CodeOption, Some, None, Result, Ok, Err}
 use Rattle.apportionment.specs.Words.{Option, none, some}
-use Rattle.apportionment.specs.Refusals.{accepted, departure_out_of_limits, outside, first_refusal}
+use Rattle.apportionment.specs.Refusals.{accepted, departure_out_of_limits, refusal_of, outside, first_refusal}
 use Rattle.apportionment.specs.Limits.{house_limit, sum_limit}
-use Rattle.apportionment.specs.{Quantities.shown_of, Quantities.mark_for, declared.Mark.Mark, declared.Mark.TheVariants.None}
-use Rattle.departure.specs.declared.Answer.{Answer}
-use Rattle.departure.specs.declared.Answer.TheVariants.{Refused, NoSeats, Shown}
+use Rattle.apportionment.specs.{Quantities.shown_of, Quantities.mark_for, declared.Mark.Mark, declared.refusals.Refusal.Refusal}
+use Rattle.departure.specs.declared.Shown.{Shown}
 
 unfoldable pub departure_refusal : (p a P H : ℕ) → ℕ  -- 30: P or H outside its limits, p outside 1 to P, a above H.
 departure_refusal p a P H = first_refusal (
@@ -21,16 +20,18 @@ departure_shown p a P H = cond (eqb (departure_refusal p a P H) accepted) (cond 
 unfoldable pub departure_mark : (p a P H : ℕ) → Option Mark  -- The mark: none at all where refused, and the mark `none` with 0 seats.
 departure_mark p a P H = cond (eqb (departure_refusal p a P H) accepted) (some (mark_for p a P H)) none
 
-unfoldable pub number_of : Answer → ℕ  -- The refusal number, 0 where the operation does not refuse.
-number_of = elim [ Refused ↦ departure_out_of_limits | NoSeats ↦ accepted | Shown shown mark ↦ accepted ]
+unfoldable pub shown_in : Result (CodeOption Shown) Refusal → Option ℤ  -- The shown departure, where there is one.
+shown_in (Err refusal) = none
+shown_in (Ok None) = none
+shown_in (Ok (Some answer)) = some answer.shown
 
-unfoldable pub shown_in : Answer → Option ℤ  -- The shown departure, where there is one.
-shown_in = elim [ Refused ↦ none | NoSeats ↦ none | Shown shown mark ↦ some shown ]
+unfoldable pub mark_in : Result (CodeOption Shown) Refusal → Option Mark  -- The mark, where there is one.
+mark_in (Err refusal) = none
+mark_in (Ok None) = some Mark.None
+mark_in (Ok (Some answer)) = some answer.mark
 
-unfoldable pub mark_in : Answer → Option Mark  -- The mark, where there is one.
-mark_in = elim [ Refused ↦ none | NoSeats ↦ some None | Shown shown mark ↦ some mark ]
-
-pub record AnswerIs (p a P H : ℕ) (answer : Answer) : Type 0 where  -- An answer has the operation's number, shown departure and mark.
-  pub number : number_of answer ≡ departure_refusal p a P H
+-- An answer has the operation's number, shown departure and mark.
+pub record AnswerIs (p a P H : ℕ) (answer : Result (CodeOption Shown) Refusal) : Type 0 where
+  pub number : refusal_of answer ≡ departure_refusal p a P H
   pub shown : shown_in answer ≡ departure_shown p a P H
   pub mark : mark_in answer ≡ departure_mark p a P H

@@ -4,11 +4,12 @@
 
 ghost use Rattle.std.specs.Prelude.{◌≡◌, ◌^◌, ◌<◌, nat_abs, pos, ◌-ℤ◌};
 ghost use Rattle.apportionment.specs.Quantities.{at_most, shown_size, mark_of};
+ghost use Rattle.apportionment.specs.Refusals.{refusal_of};
 ghost use Rattle.departure.specs.inner.Exact.{Moderate, exact_of, shown, signed, size};
 ghost use Rattle.departure.specs.Answer.{AnswerIs, departure_refusal};
 ghost use Rattle.departure.specs.inner.Answer.{InLimits};
 
-use apportionment::refusals::{ACCEPTED, DEPARTURE_OUT_OF_LIMITS};
+use apportionment::refusals::Refusal;
 use apportionment::{HOUSE_LIMIT, Mark, SUM_LIMIT, outside};
 
 // A departure, exactly: (p H - a P) / (a P), not reduced.
@@ -18,15 +19,11 @@ pub struct Departure {
     pub denominator: u64,
 }
 
-// What the departure operation answers. Its number and values in document 01's terms are `number_of`, `shown_in` and `mark_in`.
-#[derive(Clone, Copy)]
-pub enum Answer {
-    // Refusal 30.
-    Refused,
-    // A state with 0 seats: it has no departure, and its mark is `none`.
-    NoSeats,
-    // The shown departure, and the mark of the exact one.
-    Shown { shown: i64, mark: Mark },
+// The departure of a state with seats: as it is shown, and the mark of the exact one.
+#[derive(Clone, Copy, Debug, PartialEq, Eq, Hash)]
+pub struct Shown {
+    pub shown: i64,
+    pub mark: Mark,
 }
 
 // Departures are shown in thousandths of a per cent, of which so many make one whole.
@@ -90,41 +87,41 @@ impl Departure {
     }
 }
 
-// The departure operation. Refused (30) if `total` or `house` is outside its limits, `population` is outside 1 to `total`, or
-// `seats` is above `house`. The contract says which number, shown departure and mark the answer has, and so leaves one answer.
-pub fn departure_of(population: u64, seats: u64, total: u64, house: u64) -> Answer
+// The departure operation; a state with 0 seats has no departure. Refused (30) if `total` or `house` is outside its limits, `population`
+// is outside 1 to `total`, or `seats` is above `house`. The contract says which number, shown departure and mark an answer has, in the
+// terms of `refusal_of`, `shown_in` and `mark_in`, and so leaves one answer.
+pub fn departure_of(
+    population: u64,
+    seats: u64,
+    total: u64,
+    house: u64,
+) -> Result<Option<Shown>, Refusal>
     ensures { AnswerIs population seats total house result }
 {
-    if departure_refusal(population, seats, total, house) != ACCEPTED {
-        return Answer::Refused;
-    }
+    check_limits(population, seats, total, house)?;
     if seats == 0 {
-        return Answer::NoSeats;
+        return Ok(None);
     }
     let exact = Departure::of(population, seats, total, house);
-    Answer::Shown {
+    Ok(Some(Shown {
         shown: exact.shown(),
         mark: exact.mark(),
-    }
+    }))
 }
 
-// 30 for the first check that fails, or 0 where there is no refusal.
-fn departure_refusal(population: u64, seats: u64, total: u64, house: u64) -> u64
-    ensures { result ≡ departure_refusal population seats total house }
+// 30 for the first check that fails.
+#[tactic(auto, unfolding(crate::specs::Answer::departure_refusal, apportionment::specs::Refusals::first_refusal))]
+fn check_limits(population: u64, seats: u64, total: u64, house: u64) -> Result<(), Refusal>
+    ensures { refusal_of result ≡ departure_refusal population seats total house }
 {
-    if outside(SUM_LIMIT, total) {
-        return DEPARTURE_OUT_OF_LIMITS;
+    if outside(SUM_LIMIT, total)
+        || outside(HOUSE_LIMIT, house)
+        || outside(total, population)
+        || house < seats
+    {
+        return Err(Refusal::DepartureOutOfLimits);
     }
-    if outside(HOUSE_LIMIT, house) {
-        return DEPARTURE_OUT_OF_LIMITS;
-    }
-    if outside(total, population) {
-        return DEPARTURE_OUT_OF_LIMITS;
-    }
-    if house < seats {
-        return DEPARTURE_OUT_OF_LIMITS;
-    }
-    ACCEPTED
+    Ok(())
 }
 
 // The nearest number of thousandths of a per cent, halves up. The division goes in two stages, the whole part first, so that only a
@@ -154,5 +151,5 @@ fn with_sign(n: i64, size: u64) -> i64
     requires { size < 2 ^ 63 }
     ensures { result ≡ signed n size }
 {
-    if n < 0 { 0 - size as i64 } else { size as i64 }
+    if n < 0 { -(size as i64) } else { size as i64 }
 }

@@ -5,15 +5,15 @@ use Rattle.apportionment.specs.declared.Mark.TheVariants.{In, High, Over, None}
 use Rattle.apportionment.specs.{Allotment.allot_refusal, Allotment.seats_after, Allotment.steps_after, Methods.method_number}
 use Rattle.apportionment.specs.{Methods.last_method, Methods.method_at, Refusals.method_unknown, Refusals.accepted, declared.Mark.Mark}
 use Rattle.departure.specs.Answer.{departure_refusal, departure_shown, departure_mark}
-use Rattle.register.specs.{declared.Reading.Reading, Register.rows_of, Register.lines_after, Register.name_in_row, Register.name_refusal_of}
-use Rattle.handover.specs.declared.Written.{Written}
+use Rattle.register.specs.{Register.ReadingOutcome, Register.rows_of, Register.lines_after, Register.name_in_row, Register.name_refusal_of}
+use Rattle.handover.specs.Handover.{Written}
 use Rattle.desk.specs.{declared.DeskReading.DeskReading, declared.DeskShown.DeskShown, declared.DeskWritten.DeskWritten}
 use Rattle.desk.specs.{declared.DeskAllotted.DeskAllotted, declared.DeskPart.DeskPart}
 
 abbrev pub mark_number : Mark → ℕ
 mark_number = elim [ In ↦ 0 | High ↦ 1 | Over ↦ 2 | None ↦ 3 ]
 
-unfoldable pub exported_reading : Reading → DeskReading
+unfoldable pub exported_reading : ReadingOutcome → DeskReading
 exported_reading r =
     record {
       refusal = r.refusal;

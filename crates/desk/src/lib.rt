@@ -3,31 +3,25 @@
 #![tactic(auto)]
 
 ghost use Rattle.std.specs.Prelude.{◌≡◌, length};
-ghost use Rattle.std.proofs.Math.Option.{some};
-ghost use Rattle.apportionment.specs.Refusals.{accepted};
 ghost use Rattle.cleaning.specs.Clean.{clean_of, cleaned_of};
 ghost use Rattle.listing.specs.Listing.{listing_of, listed_of};
 ghost use Rattle.placing.specs.Placing.{opened_of, moved_of};
-ghost use Rattle.register.specs.Register.{reading_of};
-ghost use Rattle.handover.specs.Handover.{buffer_after};
-ghost use Rattle.desk.specs.Interface.{mark_number};
-ghost use Rattle.desk.specs.Interface.{exported_reading, exported_written};
-ghost use Rattle.desk.specs.Interface.{exported_shown, exported_departure};
+ghost use Rattle.register.specs.Register.{reading_of, reading_outcome};
+ghost use Rattle.handover.specs.Handover.{buffer_after, written_in};
+ghost use Rattle.desk.specs.Interface.{exported_reading, exported_written, exported_departure};
 ghost use Rattle.desk.specs.inner.Exported.{exported_answer};
+ghost use Rattle.desk.specs.inner.Allotting.{AllottedBy, exported_allotted};
 ghost use Rattle.desk.specs.Interface.{allotted_by, seats_by};
 ghost use Rattle.desk.specs.Interface.{part_of};
 
 use allot::allot;
-use apportionment::{Mark, STATE_LIMIT, methods, refusals};
+use apportionment::refusals::{ACCEPTED, Refusal, Refused};
+use apportionment::{Mark, Method, STATE_LIMIT};
 use cleaning::write_clean;
-use departure::{Answer, departure_of};
-use handover::Written;
+use departure::{Shown, departure_of};
 use listing::write_listing;
 use placing::{Moved, Placed, Placing};
-use register::{Reading, name_refusal, read, rows};
-
-// The number of the mark of a state without seats.
-const MARK_NONE: u64 = 3;
+use register::{Reading, rows};
 
 #[repr(C)]
 #[derive(Clone, Copy)]
@@ -73,71 +67,93 @@ pub struct DeskPart {
     pub length: u64,
 }
 
-// The number of a mark.
-fn mark_number(mark: Mark) -> u64
-    ensures { result ≡ mark_number mark }
-{
-    match mark {
-        Mark::In => 0,
-        Mark::High => 1,
-        Mark::Over => 2,
-        Mark::None => MARK_NONE,
+impl From<Result<Reading, Refused>> for DeskReading {
+    ghost from_gives = { λ outcome exported. exported ≡ exported_reading (reading_outcome outcome) };
+
+    fn from(outcome: Result<Reading, Refused>) -> DeskReading {
+        match outcome {
+            Ok(reading) => {
+                let populations = reading.populations;
+                DeskReading {
+                    refusal: ACCEPTED,
+                    line: 0,
+                    method: u64::from(reading.method),
+                    house: reading.house,
+                    states: reading.states as u64,
+                    total: reading.total,
+                    populations,
+                }
+            }
+            Err(refused) => DeskReading {
+                refusal: refused.refusal.number(),
+                line: refused.line,
+                method: u64::from(Method::Leximin),
+                house: 0,
+                states: 0,
+                total: 0,
+                populations: [0; STATE_LIMIT],
+            },
+        }
     }
 }
 
-fn exported_reading(reading: Reading) -> DeskReading
-    ensures { result ≡ exported_reading reading }
-{
-    let named = reading.method;
-    let method = methods::number(named);
-    let populations = reading.populations;
-    DeskReading {
-        refusal: reading.refusal,
-        line: reading.line,
-        method,
-        house: reading.house,
-        states: reading.states as u64,
-        total: reading.total,
-        populations,
+impl From<Result<u64, Refusal>> for DeskAllotted {
+    ghost from_gives = { λ outcome exported. exported ≡ exported_allotted outcome };
+
+    fn from(outcome: Result<u64, Refusal>) -> DeskAllotted {
+        match outcome {
+            Ok(steps) => DeskAllotted {
+                refusal: ACCEPTED,
+                steps,
+            },
+            Err(refusal) => DeskAllotted {
+                refusal: refusal.number(),
+                steps: 0,
+            },
+        }
     }
 }
 
-fn exported_shown(shown: i64, mark: Mark) -> DeskShown
-    ensures { result ≡ exported_shown accepted (some shown) (some mark) }
-{
-    let mark = mark_number(mark);
-    DeskShown {
-        refusal: refusals::ACCEPTED,
-        shown,
-        mark,
+impl From<Result<Option<Shown>, Refusal>> for DeskShown {
+    ghost from_gives = { λ answer exported. exported ≡ exported_answer answer };
+
+    fn from(answer: Result<Option<Shown>, Refusal>) -> DeskShown {
+        match answer {
+            Ok(Some(Shown { shown, mark })) => DeskShown {
+                refusal: ACCEPTED,
+                shown,
+                mark: mark as u64,
+            },
+            Ok(None) => DeskShown {
+                refusal: ACCEPTED,
+                shown: 0,
+                mark: Mark::None as u64,
+            },
+            Err(refusal) => DeskShown {
+                refusal: refusal.number(),
+                shown: 0,
+                mark: Mark::None as u64,
+            },
+        }
     }
 }
 
-fn exported_answer(answer: Answer) -> DeskShown
-    ensures { result ≡ exported_answer answer }
-{
-    match answer {
-        Answer::Refused => DeskShown {
-            refusal: refusals::DEPARTURE_OUT_OF_LIMITS,
-            shown: 0,
-            mark: MARK_NONE,
-        },
-        Answer::NoSeats => DeskShown {
-            refusal: refusals::ACCEPTED,
-            shown: 0,
-            mark: MARK_NONE,
-        },
-        Answer::Shown { shown, mark } => exported_shown(shown, mark),
-    }
-}
+impl From<Result<usize, Refused>> for DeskWritten {
+    ghost from_gives = { λ outcome exported. exported ≡ exported_written (written_in outcome) };
 
-fn exported_written(written: Written) -> DeskWritten
-    ensures { result ≡ exported_written written }
-{
-    DeskWritten {
-        refusal: written.refusal,
-        line: written.line,
-        length: written.size as u64,
+    fn from(outcome: Result<usize, Refused>) -> DeskWritten {
+        match outcome {
+            Ok(size) => DeskWritten {
+                refusal: ACCEPTED,
+                line: 0,
+                length: size as u64,
+            },
+            Err(failed) => DeskWritten {
+                refusal: failed.refusal.number(),
+                line: failed.line,
+                length: 0,
+            },
+        }
     }
 }
 
@@ -146,7 +162,15 @@ fn exported_written(written: Written) -> DeskWritten
 pub extern "C" fn desk_read(bytes: &[u8]) -> DeskReading
     ensures { result ≡ exported_reading (reading_of bytes.now) }
 {
-    exported_reading(read(bytes))
+    DeskReading::from(register::read(bytes))
+}
+
+// Allots by the method with a number.
+fn allot_by(number: u64, house: u64, populations: &[u64], seats: &mut [u64]) -> Result<u64, Refusal>
+    ensures { AllottedBy number house populations.now seats.old seats.new result }
+{
+    let method = Method::try_from(number)?;
+    allot(method, house, populations, seats)
 }
 
 // Allots a house by the method with a number: 4 for a number that is no method, then allotting's refusals; a refusal leaves the seats as
@@ -161,17 +185,7 @@ pub extern "C" fn desk_allot(
     ensures value { result ≡ allotted_by method house populations.now (length seats.old) }
     ensures seats_after { seats.new ≡ seats_by method house populations.now seats.old }
 {
-    if methods::LAST < method {
-        return DeskAllotted {
-            refusal: refusals::METHOD_UNKNOWN,
-            steps: 0,
-        };
-    }
-    let made = allot(methods::at(method), house, populations, seats);
-    DeskAllotted {
-        refusal: made.refusal,
-        steps: made.steps,
-    }
+    DeskAllotted::from(allot_by(method, house, populations, seats))
 }
 
 // Opens a placing: refusals 10 to 13 and 15, and everything 0 where one is given.
@@ -196,7 +210,7 @@ pub extern "C" fn desk_move(placing: &mut Placing, seats: u64) -> Moved
 pub extern "C" fn desk_departure(population: u64, seats: u64, total: u64, house: u64) -> DeskShown
     ensures { result ≡ exported_departure population seats total house }
 {
-    exported_answer(departure_of(population, seats, total, house))
+    DeskShown::from(departure_of(population, seats, total, house))
 }
 
 // Writes the listing of a register at the front of the lent buffer: the refusals of reading and of allotting, then 31 if it is longer than
@@ -206,8 +220,7 @@ pub extern "C" fn desk_listing(bytes: &[u8], out: &mut [u8]) -> DeskWritten
     ensures value { result ≡ exported_written (listed_of bytes.now (length out.old)) }
     ensures out_after { out.new ≡ buffer_after result.refusal (listing_of bytes.now) out.old }
 {
-    let listed = write_listing(bytes, out);
-    exported_written(listed)
+    DeskWritten::from(write_listing(bytes, out))
 }
 
 // Writes the clean form of a register at the front of the lent buffer: reading's refusals, then 31 if it is longer than the buffer, which a
@@ -217,8 +230,7 @@ pub extern "C" fn desk_clean(bytes: &[u8], out: &mut [u8]) -> DeskWritten
     ensures value { result ≡ exported_written (cleaned_of bytes.now (length out.old)) }
     ensures out_after { out.new ≡ buffer_after result.refusal (clean_of bytes.now) out.old }
 {
-    let cleaned = write_clean(bytes, out);
-    exported_written(cleaned)
+    DeskWritten::from(write_clean(bytes, out))
 }
 
 // Where the name of the state with a place, counted from 0, starts in the register, and its length: reading's refusals, then 40 for a place
@@ -227,22 +239,23 @@ pub extern "C" fn desk_clean(bytes: &[u8], out: &mut [u8]) -> DeskWritten
 pub extern "C" fn desk_name(bytes: &[u8], place: usize) -> DeskPart
     ensures { result ≡ part_of bytes.now place }
 {
-    let refusal = name_refusal(bytes, place);
-    if refusal.number != refusals::ACCEPTED {
-        return DeskPart {
-            refusal: refusal.number,
-            line: refusal.line,
+    match register::check_place(bytes, place) {
+        Ok(()) => {
+            let left = rows::after(rows::of(bytes), place);
+            let name = rows::first_name(left);
+            let start = bytes.len() - left.len();
+            DeskPart {
+                refusal: ACCEPTED,
+                line: 0,
+                start: start as u64,
+                length: name.len() as u64,
+            }
+        }
+        Err(refused) => DeskPart {
+            refusal: refused.refusal.number(),
+            line: refused.line,
             start: 0,
             length: 0,
-        };
-    }
-    let left = rows::after(rows::of(bytes), place);
-    let name = rows::first_name(left);
-    let start = bytes.len() - left.len();
-    DeskPart {
-        refusal: refusals::ACCEPTED,
-        line: 0,
-        start: start as u64,
-        length: name.len() as u64,
+        },
     }
 }

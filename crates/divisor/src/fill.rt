@@ -6,8 +6,8 @@ ghost use Rattle.apportionment.specs.inner.Problem.{Fillable};
 ghost use Rattle.signposts.specs.inner.Claims.{aim_limit};
 ghost use Rattle.divisor.specs.inner.Steps.{Started};
 
-use crate::moves::make_moves;
-use crate::rounding::fill_rounded;
+use crate::moves::Movement;
+use crate::rounding::Rounding;
 use apportionment::DivisorMethod;
 
 // Rounding again costs about as much as so many moves, and as one more for every so many states: it goes through all of them, and a move
@@ -21,11 +21,7 @@ fn aim_of(house: u64, given: u64) -> u64
     requires { house ≤ house_limit }
     ensures { result ≤ 2 * house }
 {
-    let twice = 2 * house;
-    if twice < given {
-        return 0;
-    }
-    twice - given
+    (2 * house).saturating_sub(given)
 }
 
 // Is rounding again likely to cost more than the moves that it saves? So where the house to aim at is near; and where no state was given
@@ -33,34 +29,22 @@ fn aim_of(house: u64, given: u64) -> u64
 fn near(states: usize, given: u64, house: u64, aim: u64) -> bool
     requires { (states ≤ state_limit) × (house ≤ house_limit) × (aim ≤ aim_limit) }
 {
-    if given == 0 {
-        return true;
-    }
     let way = MOVES_AT_LEAST + states as u64 / STATES_A_MOVE;
-    if house + way < aim {
-        return false;
-    }
-    house < aim + way
+    given == 0 || (aim <= house + way && house < aim + way)
 }
 
 // Fills in rounded seats, and hands back how many they are: rounded for the house or, where that is far off, as it is by about half a
 // seat a state under Adams and Jefferson, for the house to aim at.
-fn fill_near(
-    method: DivisorMethod,
-    populations: &[u64],
-    total: u64,
-    house: u64,
-    seats: &mut [u64],
-) -> u64
-    requires { Fillable populations.now total house seats.old }
-    ensures { Started method populations.now seats.new result }
+fn fill_near(rounding: Rounding<'_>, house: u64, seats: &mut [u64]) -> u64
+    requires { Fillable rounding.populations.now rounding.total house seats.old }
+    ensures { Started rounding.entry.method rounding.entry.populations.now seats.new result }
 {
-    let given = fill_rounded(method, populations, total, house, seats);
+    let given = rounding.fill_rounded(house, seats);
     let aim = aim_of(house, given);
-    if near(populations.len(), given, house, aim) {
+    if near(rounding.populations.len(), given, house, aim) {
         return given;
     }
-    fill_rounded(method, populations, total, aim, seats)
+    rounding.fill_rounded(aim, seats)
 }
 
 // Fills in the seats that a divisor method gives: claims met in order, as many as the house has seats. What rounding left lacking or
@@ -75,10 +59,17 @@ pub fn fill_divisor(
     requires { Fillable populations.now total house seats.old }
     ensures { seats.new ≡ divisor_seats method populations.now house }
 {
-    let given = fill_near(method, populations, total, house, seats);
-    if house < given {
-        make_moves(method, false, populations, given - house, seats);
-        return;
-    }
-    make_moves(method, true, populations, house - given, seats);
+    let rounding = Rounding {
+        method,
+        populations,
+        total,
+    };
+    let given = fill_near(rounding, house, seats);
+    let up = given <= house;
+    let movement = Movement {
+        method,
+        up,
+        populations,
+    };
+    movement.make_moves(house.abs_diff(given), seats);
 }

@@ -1,7 +1,7 @@
 -- Document 01, "The register": parts of a run of bytes; what a line, a field, a number, a name and the word of a method are.
-use Rattle.std.specs.Prelude.{◌∷◌, ◌+◌, ◌-◌, ◌*◌, Bool, true, false, cond, List, [], ℕ, suc, ltb, leb, eqb, length, take, drop, get_or}
+use Rattle.std.specs.Prelude.{◌∷◌, ◌+◌, ◌-◌, ◌*◌, Bool, true, false, cond, List, [], Option, Some, None, ℕ, suc, ltb, leb, eqb, length}
+use Rattle.std.specs.Prelude.{take, drop, get_or}
 use Rattle.apportionment.specs.{Lists.same_list, Methods.methods, Methods.method_text, Refusals.within, declared.Method.Method}
-use Rattle.fields.specs.{declared.Named.Named, declared.Named.TheVariants.Known, declared.Named.TheVariants.Unknown}
 
 unfoldable pub place_of : (b : ℕ) → List ℕ → ℕ  -- The place of the first byte b, counted from 0; the length where there is none.
 place_of b [] = 0
@@ -77,9 +77,9 @@ is_name f =
 unfoldable pub is_method_field : List ℕ → Bool  -- A method field: 1 to 32 bytes from 33 to 126.
 is_method_field f = cond (within word_limit (length f)) (all_between 33 126 f) false
 
-unfoldable pub first_named : List ℕ → List Method → Named  -- The first of some methods whose word is the field.
-first_named f [] = Unknown
-first_named f (m ∷ ms) = cond (same_list f (method_text m)) (Known m) (first_named f ms)
+unfoldable pub first_named : List ℕ → List Method → Option Method  -- The first of some methods whose word is the field.
+first_named f [] = None
+first_named f (m ∷ ms) = cond (same_list f (method_text m)) (Some m) (first_named f ms)
 
-unfoldable pub method_named : List ℕ → Named  -- The method that a field names.
+unfoldable pub method_named : List ℕ → Option Method  -- The method that a field names.
 method_named f = first_named f methods

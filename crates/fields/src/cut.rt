@@ -3,7 +3,7 @@ ghost use Rattle.std.specs.Prelude.{◌≡◌};
 ghost use Rattle.fields.specs.Grammar.{place_of};
 ghost use Rattle.fields.specs.Grammar.{line_feed, comma, ended, without_return, line_of, rest_of, field_of, fields_after};
 
-use crate::parts::{past, place_of, upto};
+use crate::parts::{past, place_of};
 
 const LF: u8 = 10;
 
@@ -30,14 +30,7 @@ pub fn is_ended(s: &[u8], end: usize) -> bool
 fn without_return(s: &[u8]) -> &[u8]
     ensures { result.now ≡ without_return s.now }
 {
-    if s.len() == 0 {
-        return s;
-    }
-    let e = s.len() - 1;
-    if s[e] == CR {
-        return &s[..e];
-    }
-    s
+    s.strip_suffix(&[CR]).unwrap_or(s)
 }
 
 // The first line of what is left, which ends at `end`, without its end.
@@ -45,7 +38,7 @@ pub fn line_to(s: &[u8], end: usize) -> &[u8]
     requires { end ≡ place_of line_feed s.now }
     ensures { result.now ≡ line_of s.now }
 {
-    without_return(upto(s, end))
+    without_return(&s[..end])
 }
 
 // What is left after the first line, which ends at `end`.
@@ -82,7 +75,7 @@ pub fn field_to(line: &[u8], end: usize) -> &[u8]
     requires { end ≡ place_of comma line.now }
     ensures { result.now ≡ field_of line.now }
 {
-    upto(line, end)
+    &line[..end]
 }
 
 // What follows the first field, which ends at `end`, and its comma.

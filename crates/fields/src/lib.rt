@@ -6,12 +6,3 @@ pub mod cut;
 pub mod numbers;
 pub mod parts;
 pub mod words;
-
-use apportionment::Method;
-
-// What a method field names.
-#[derive(Clone, Copy)]
-pub enum Named {
-    Known(Method),
-    Unknown,
-}

@@ -1,11 +1,24 @@
 -- Document 01, "Operations": what every operation that writes into a lent buffer hands back, and what the buffer holds afterwards.
-use Rattle.std.specs.Prelude.{◌≡◌, ◌++◌, cond, List, ℕ, leb, eqb, length, drop}
-use Rattle.apportionment.specs.Refusals.{accepted, buffer_too_short}
+use Rattle.std.specs.Prelude.{◌≡◌, ◌++◌, cond, List, ℕ, leb, eqb, length, drop, Result, Ok, Err}
+use Rattle.apportionment.specs.Refusals.{accepted, buffer_too_short, refusal_number}
+use Rattle.apportionment.specs.declared.{refusals.Refusal.Refusal, refusals.Refused.Refused}
 use Rattle.text.specs.Shared.{refusal_line}
-use Rattle.handover.specs.declared.Written.{Written}
 
-unfoldable pub refused : (number line : ℕ) → Written  -- A refusal: its number and line, and no text.
+pub record Written : Type 0 where  -- What comes of writing: a refusal's number and line, or 0, 0 and the text's length.
+  pub refusal : ℕ
+  pub line : ℕ
+  pub size : ℕ
+
+abbrev pub refused : (number line : ℕ) → Written  -- A refusal: its number and line, and no text.
 refused number line = record { refusal = number; line = line; size = 0 }
+
+abbrev pub written_in : Result ℕ Refused → Written  -- So the code tells it: the length, or a refusal and its line.
+written_in (Ok size) = record { refusal = accepted; line = 0; size = size }
+written_in (Err e) = refused (refusal_number e.refusal) e.line
+
+abbrev pub handed_in : Result ℕ Refusal → Written  -- The same where no line is at fault.
+handed_in (Ok size) = record { refusal = accepted; line = 0; size = size }
+handed_in (Err refusal) = refused (refusal_number refusal) 0
 
 unfoldable pub written_of : (number line : ℕ) (text : List ℕ) (room : ℕ) → Written  -- The operation's own refusals, then 31 if too long.
 written_of number line text room =

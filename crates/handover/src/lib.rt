@@ -1,43 +1,19 @@
 // Handing a finished text over to a lent buffer: how every operation ends that writes into one.
 #![tactic(auto)]
 
-ghost use Rattle.std.specs.Prelude.{◌≡◌};
 ghost use Rattle.apportionment.specs.Refusals.{accepted};
-ghost use Rattle.handover.specs.Handover.{refused, WritingIs};
+ghost use Rattle.handover.specs.Handover.{handed_in, WritingIs};
 
-use apportionment::refusals;
-use writing::put_bytes;
+use apportionment::refusals::Refusal;
 
-// What such an operation answers: a refusal's number and line, or 0, 0 and the text's length.
-#[derive(Clone, Copy)]
-pub struct Written {
-    pub refusal: u64,
-    pub line: u64,
-    pub size: usize,
-}
-
-// A refusal: nothing was written.
-pub fn refused(number: u64, line: u64) -> Written
-    ensures { result ≡ refused number line }
-{
-    Written {
-        refusal: number,
-        line,
-        size: 0,
-    }
-}
-
-// Copies a finished text to the front of the buffer, whose later bytes stay; 31 exactly if the text is longer, and then every byte stays.
-pub fn hand_over(text: &[u8], out: &mut [u8]) -> Written
-    ensures { WritingIs accepted 0 text.now out.old result out.new }
+// Copies a finished text to the front of the buffer, whose later bytes stay, and answers its length; 31 exactly if the text is longer, and
+// then every byte stays.
+pub fn hand_over(text: &[u8], out: &mut [u8]) -> Result<usize, Refusal>
+    ensures { WritingIs accepted 0 text.now out.old (handed_in result) out.new }
 {
     if text.len() <= out.len() {
-        put_bytes(out, 0, text);
-        return Written {
-            refusal: refusals::ACCEPTED,
-            line: 0,
-            size: text.len(),
-        };
+        out[..text.len()].copy_from_slice(text);
+        return Ok(text.len());
     }
-    refused(refusals::BUFFER_TOO_SHORT, 0)
+    Err(Refusal::BufferTooShort)
 }

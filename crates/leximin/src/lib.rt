@@ -3,6 +3,7 @@
 // Allotting and the placing are built of these; what they say of leximin itself is the theory's (crate `claims`).
 #![tactic(auto)]
 
+pub mod house;
 pub mod moves;
 pub mod scan;
 pub mod settle;

@@ -5,93 +5,11 @@ ghost use Rattle.claims.specs.inner.SizeClaims.{size_test, one_each};
 ghost use Rattle.leximin.specs.inner.Scan.{Bounded, Seated};
 ghost use Rattle.leximin.specs.inner.Moves.{moved_once, moved_times, Movable};
 
-use crate::scan::{first_unmet, last_met};
-use crate::tournament::{build, replay, wide};
+use crate::house::House;
+use crate::tournament::Seating;
 use apportionment::STATE_LIMIT;
 use claims::moves::moved;
-
-// The first claim not met is met.
-fn place(populations: &[u64], seats: &mut [u64], total: u64, house: u64)
-    requires { Bounded populations.now total house seats.old }
-    ensures { seats.new ≡ placed (size_test populations.now house) (length populations.now)
-        seats.old }
-{
-    let at = first_unmet(populations, &seats[..], total, house);
-    seats[at] = seats[at] + 1;
-}
-
-// The last claim met is given up.
-fn withdraw(populations: &[u64], seats: &mut [u64], total: u64, house: u64)
-    requires { Seated populations.now total house seats.old }
-    ensures { seats.new ≡ withdrawn one_each (size_test populations.now house)
-        (length populations.now) seats.old }
-{
-    let at = last_met(populations, &seats[..], total, house);
-    seats[at] = seats[at] - 1;
-}
-
-// One seat moved: placed where `up` is true, and withdrawn otherwise.
-fn move_once(up: bool, populations: &[u64], seats: &mut [u64], total: u64, house: u64)
-    requires { Seated populations.now total house seats.old }
-    ensures { seats.new ≡ moved_once up populations.now house seats.old }
-{
-    if up {
-        place(populations, &mut seats[..], total, house);
-        return;
-    }
-    withdraw(populations, &mut seats[..], total, house);
-}
-
-// Moves so many seats, each by a scan of all states.
-fn move_by_scans(
-    up: bool,
-    populations: &[u64],
-    seats: &mut [u64],
-    total: u64,
-    house: u64,
-    times: u64,
-)
-    requires { Movable up populations.now total house seats.old times }
-    ensures { seats.new ≡ moved_times up populations.now house seats.old times }
-{
-    let mut done = 0;
-    while done < times {
-        move_once(up, populations, &mut seats[..], total, house);
-        done += 1;
-    }
-}
-
-// Moves so many seats, one after the other: each time the state at the root of a tournament, which is then replayed.
-fn move_by_tournament(
-    up: bool,
-    populations: &[u64],
-    seats: &mut [u64],
-    total: u64,
-    house: u64,
-    times: u64,
-    tree: &mut [u16],
-)
-    requires { Movable up populations.now total house seats.old times × (length tree.old ≡ 2 * length populations.now) }
-    ensures { seats.new ≡ moved_times up populations.now house seats.old times }
-{
-    build(up, populations, &seats[..], total, house, &mut tree[..]);
-    let mut done = 0;
-    while done < times {
-        let root = tree[1];
-        let state = wide(root);
-        seats[state] = moved(up, seats[state]);
-        replay(
-            up,
-            populations,
-            &seats[..],
-            total,
-            house,
-            root,
-            &mut tree[..],
-        );
-        done += 1;
-    }
-}
+use claims::tournament;
 
 // The places of a tournament among as many states as a register may have.
 const PLACES: usize = 2 * STATE_LIMIT;
@@ -106,31 +24,89 @@ fn scans_pay(states: usize, times: u64) -> bool
     times <= (1 + MAKING / states) as u64
 }
 
-// Places so many seats where `up` is true, and withdraws so many otherwise.
-pub fn move_times(
-    up: bool,
-    populations: &[u64],
-    seats: &mut [u64],
-    total: u64,
-    house: u64,
-    times: u64,
-)
-    requires { Movable up populations.now total house seats.old times }
-    ensures { seats.new ≡ moved_times up populations.now house seats.old times }
-{
-    if scans_pay(populations.len(), times) {
-        move_by_scans(up, populations, &mut seats[..], total, house, times);
-        return;
+impl House<'_> {
+    // The first claim not met is met.
+    fn place(&self, seats: &mut [u64])
+        requires { Bounded self.now.populations.now self.now.total self.now.house seats.old }
+        ensures { seats.new ≡ placed (size_test self.now.populations.now self.now.house) (length self.now.populations.now)
+            seats.old }
+    {
+        let at = self.first_unmet(seats);
+        seats[at] += 1;
     }
-    let mut tree = [0u16; PLACES];
-    let places = 2 * populations.len();
-    move_by_tournament(
-        up,
-        populations,
-        &mut seats[..],
-        total,
-        house,
-        times,
-        &mut tree[..places],
-    );
+
+    // The last claim met is given up. It differs from `place` in the scan and in the step, which is all that either has.
+    fn withdraw(&self, seats: &mut [u64])
+        requires { Seated self.now.populations.now self.now.total self.now.house seats.old }
+        ensures { seats.new ≡ withdrawn one_each (size_test self.now.populations.now self.now.house)
+            (length self.now.populations.now) seats.old }
+    {
+        let at = self.last_met(seats);
+        seats[at] -= 1;
+    }
+
+    // One seat moved: placed where `up` is true, and withdrawn otherwise. Which it is shows at run time alone, so no type or closure picks
+    // it.
+    fn move_once(&self, up: bool, seats: &mut [u64])
+        requires { Seated self.now.populations.now self.now.total self.now.house seats.old }
+        ensures { seats.new ≡ moved_once up self.now.populations.now self.now.house seats.old }
+    {
+        if up {
+            self.place(seats);
+            return;
+        }
+        self.withdraw(seats);
+    }
+
+    // Moves so many seats, each by a scan of all states.
+    fn move_by_scans(&self, up: bool, seats: &mut [u64], times: u64)
+        requires { Movable up self.now.populations.now self.now.total self.now.house seats.old times }
+        ensures { seats.new ≡ moved_times up self.now.populations.now self.now.house seats.old times }
+    {
+        for _ in 0..times {
+            self.move_once(up, seats);
+        }
+    }
+
+    // Moves so many seats, one after the other: each time the state at the root of a tournament, which is then replayed.
+    fn move_by_tournament(&self, up: bool, seats: &mut [u64], times: u64, tree: &mut [u16])
+        requires { Movable up self.now.populations.now self.now.total self.now.house seats.old times
+            × (length tree.old ≡ 2 * length self.now.populations.now) }
+        ensures { seats.new ≡ moved_times up self.now.populations.now self.now.house seats.old times }
+    {
+        let begun = Seating {
+            up,
+            populations: self.populations,
+            seats,
+            total: self.total,
+            house: self.house,
+        };
+        tournament::play(&begun, tree);
+        for _ in 0..times {
+            let state = usize::from(tree[1]);
+            seats[state] = moved(up, seats[state]);
+            let now = Seating {
+                up,
+                populations: self.populations,
+                seats,
+                total: self.total,
+                house: self.house,
+            };
+            tournament::replay(&now, state, tree);
+        }
+    }
+
+    // Places so many seats where `up` is true, and withdraws so many otherwise.
+    pub fn move_times(&self, up: bool, seats: &mut [u64], times: u64)
+        requires { Movable up self.now.populations.now self.now.total self.now.house seats.old times }
+        ensures { seats.new ≡ moved_times up self.now.populations.now self.now.house seats.old times }
+    {
+        if scans_pay(self.populations.len(), times) {
+            self.move_by_scans(up, seats, times);
+            return;
+        }
+        let mut tree = [0u16; PLACES];
+        let places = 2 * self.populations.len();
+        self.move_by_tournament(up, seats, times, &mut tree[..places]);
+    }
 }

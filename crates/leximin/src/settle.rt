@@ -7,9 +7,7 @@ ghost use Rattle.sizes.specs.inner.Sizes.{SmallClaim, less_claim};
 ghost use Rattle.leximin.specs.inner.Scan.{Seated};
 ghost use Rattle.leximin.specs.inner.Settled.{Settled};
 
-use crate::moves::move_times;
-use crate::scan::{first_unmet, last_met};
-use crate::start::fill_start;
+use crate::house::House;
 use sizes::{Claim, claim_less, claim_of};
 
 // Fills the seat list with the leximin allotment of the house, from the start by single moves; the answer is how many there were.
@@ -17,26 +15,17 @@ pub fn fill_leximin(populations: &[u64], total: u64, house: u64, seats: &mut [u6
     requires { Fillable populations.now total house seats.old × (length populations.now ≤ house) }
     ensures { Settled populations.now house seats.new result }
 {
-    let start = fill_start(populations, total, house, &mut seats[..]);
-    if start < house {
-        move_times(
-            true,
-            populations,
-            &mut seats[..],
-            total,
-            house,
-            house - start,
-        );
-        return house - start;
-    }
-    move_times(
-        false,
+    let own = House {
         populations,
-        &mut seats[..],
         total,
         house,
-        start - house,
-    );
+    };
+    let start = own.fill_start(seats);
+    if start < house {
+        own.move_times(true, seats, house - start);
+        return house - start;
+    }
+    own.move_times(false, seats, start - house);
     start - house
 }
 
@@ -54,18 +43,20 @@ fn comes_before(own: Claim, i: usize, other: Claim, j: usize) -> bool
     i < j
 }
 
-// The last claim met comes before the first one not met: seats for which this holds are leximin for their total.
-pub fn ends_apart(populations: &[u64], seats: &[u64], total: u64, house: u64) -> bool
-    requires { Seated populations.now total house seats.now }
-    ensures { result ≡ ends_apart one_each (size_test populations.now house) (length populations.now)
-        seats.now }
-{
-    let i = last_met(populations, seats, total, house);
-    let j = first_unmet(populations, seats, total, house);
-    if seats[i] <= 1 {
-        return true;
+impl House<'_> {
+    // The last claim met comes before the first one not met: seats for which this holds are leximin for their total.
+    pub fn ends_apart(&self, seats: &[u64]) -> bool
+        requires { Seated self.now.populations.now self.now.total self.now.house seats.now }
+        ensures { result ≡ ends_apart one_each (size_test self.now.populations.now self.now.house) (length self.now.populations.now)
+            seats.now }
+    {
+        let i = self.last_met(seats);
+        let j = self.first_unmet(seats);
+        if seats[i] <= 1 {
+            return true;
+        }
+        let met = claim_of(self.populations[i], seats[i] - 1, self.total, self.house);
+        let unmet = claim_of(self.populations[j], seats[j], self.total, self.house);
+        comes_before(met, i, unmet, j)
     }
-    let met = claim_of(populations[i], seats[i] - 1, total, house);
-    let unmet = claim_of(populations[j], seats[j], total, house);
-    comes_before(met, i, unmet, j)
 }

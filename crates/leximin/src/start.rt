@@ -7,71 +7,68 @@ ghost use Rattle.apportionment.specs.Lists.{same_list};
 ghost use Rattle.leximin.specs.inner.Start.{Begun};
 ghost use Rattle.apportionment.specs.Leximin.{start_seats, start_total};
 
+use crate::house::House;
 use sizes::{size_less, size_of};
 
-// The seats nearest to p H / P: its whole part or one more, at least 1, the fewer where two are equally near.
-pub fn nearest_seats(population: u64, total: u64, house: u64) -> u64
-    requires { State population total house }
-    ensures { result ≡ nearest_rounded population total house }
-{
-    let whole = population * house / total;
-    if whole == 0 {
-        return 1;
-    }
-    let more = size_of(population, whole + 1, total, house);
-    let fewer = size_of(population, whole, total, house);
-    if size_less(more, fewer) {
-        return whole + 1;
-    }
-    whole
-}
-
-// Fills the seat list with each state's nearest seats.
-fn fill_nearest(populations: &[u64], total: u64, house: u64, seats: &mut [u64])
-    requires { Fillable populations.now total house seats.old }
-    ensures { seats.new ≡ start_seats populations.now house }
-{
-    let mut i = 0;
-    while i < populations.len() {
-        seats[i] = nearest_seats(populations[i], total, house);
-        i += 1;
-    }
-}
-
-// Fills the seat list with the start, and adds it up: the starting total L.
-pub fn fill_start(populations: &[u64], total: u64, house: u64, seats: &mut [u64]) -> u64
-    requires { Fillable populations.now total house seats.old }
-    ensures { Begun populations.now house seats.new result }
-{
-    fill_nearest(populations, total, house, &mut seats[..]);
-    problem::total_of(&seats[..])
-}
-
-// The starting total alone: every state's nearest seats added up.
-pub fn start_total(populations: &[u64], total: u64, house: u64) -> u64
-    requires { Problem populations.now total house }
-    ensures { result ≡ start_total populations.now house }
-{
-    let mut sum: u64 = 0;
-    let mut i = 0;
-    while i < populations.len() {
-        sum += nearest_seats(populations[i], total, house);
-        i += 1;
-    }
-    sum
-}
-
-// The seats are each state's nearest.
-pub fn is_start(populations: &[u64], total: u64, house: u64, seats: &[u64]) -> bool
-    requires { Fillable populations.now total house seats.now }
-    ensures { result ≡ same_list seats.now (start_seats populations.now house) }
-{
-    let mut i = 0;
-    while i < populations.len() {
-        if seats[i] != nearest_seats(populations[i], total, house) {
-            return false;
+impl House<'_> {
+    // The seats nearest to p H / P: its whole part or one more, at least 1, the fewer where two are equally near.
+    pub fn nearest_seats(&self, population: u64) -> u64
+        requires { State population self.now.total self.now.house }
+        ensures { result ≡ nearest_rounded population self.now.total self.now.house }
+    {
+        let whole = population * self.house / self.total;
+        if whole == 0 {
+            return 1;
         }
-        i += 1;
+        let more = size_of(population, whole + 1, self.total, self.house);
+        let fewer = size_of(population, whole, self.total, self.house);
+        if size_less(more, fewer) {
+            return whole + 1;
+        }
+        whole
     }
-    true
+
+    // Fills the seat list with each state's nearest seats.
+    fn fill_nearest(&self, seats: &mut [u64])
+        requires { Fillable self.now.populations.now self.now.total self.now.house seats.old }
+        ensures { seats.new ≡ start_seats self.now.populations.now self.now.house }
+    {
+        for (i, population) in self.populations.iter().enumerate() {
+            seats[i] = self.nearest_seats(*population);
+        }
+    }
+
+    // Fills the seat list with the start, and adds it up: the starting total L.
+    pub fn fill_start(&self, seats: &mut [u64]) -> u64
+        requires { Fillable self.now.populations.now self.now.total self.now.house seats.old }
+        ensures { Begun self.now.populations.now self.now.house seats.new result }
+    {
+        self.fill_nearest(seats);
+        problem::total_of(seats)
+    }
+
+    // The starting total alone: every state's nearest seats added up.
+    pub fn start_total(&self) -> u64
+        requires { Problem self.now.populations.now self.now.total self.now.house }
+        ensures { result ≡ start_total self.now.populations.now self.now.house }
+    {
+        let mut sum = 0;
+        for population in self.populations {
+            sum += self.nearest_seats(*population);
+        }
+        sum
+    }
+
+    // The seats are each state's nearest.
+    pub fn is_start(&self, seats: &[u64]) -> bool
+        requires { Fillable self.now.populations.now self.now.total self.now.house seats.now }
+        ensures { result ≡ same_list seats.now (start_seats self.now.populations.now self.now.house) }
+    {
+        for (i, population) in self.populations.iter().enumerate() {
+            if seats[i] != self.nearest_seats(*population) {
+                return false;
+            }
+        }
+        true
+    }
 }

@@ -1,166 +1,81 @@
-// A tournament among the states: the state that moves next stands at its root, and a move is made good on one way up.
-// A move places a seat where `up` is true, and withdraws one otherwise.
-ghost use Rattle.std.specs.Prelude.{◌≡◌, true, false, ◌*◌, ◌≤◌, length};
-ghost use Rattle.apportionment.specs.Limits.{state_limit};
+// Which state moves first: takes the next seat where seats are placed, and gives one up where they are withdrawn. Many moves in turn are
+// found by a tournament of the states (crate `claims`).
+ghost use Rattle.std.specs.Prelude.{◌≡◌, true, false, length};
 ghost use Rattle.claims.specs.inner.Order.{wants_before, gives_up_before};
 ghost use Rattle.claims.specs.inner.SizeClaims.{size_test, one_each};
-ghost use Rattle.claims.specs.inner.TournamentReplay.{Planted};
-ghost use Rattle.leximin.specs.inner.Sided.{Sided};
-ghost use Rattle.leximin.specs.inner.Tournament.{Pair, moves_before, better_state, Champions, Moved};
+ghost use Rattle.leximin.specs.inner.Sided.{Sided, sided_props};
+ghost use Rattle.leximin.specs.inner.Tournament.{Pair, moves_before};
 
+use claims::tournament::Contest;
 use sizes::quotients::{climbs_before, falls_before};
 
-// State i's next claim comes before state j's.
-fn wants_before(
-    populations: &[u64],
-    seats: &[u64],
-    total: u64,
-    house: u64,
-    i: usize,
-    j: usize,
-) -> bool
-    requires { Sided true populations.now total house seats.now × Pair populations.now i j }
-    ensures { result ≡ wants_before (size_test populations.now house) seats.now i j }
-{
-    climbs_before(
-        populations[i],
-        seats[i],
-        populations[j],
-        seats[j],
-        total,
-        house,
-    )
+// States with seats on their way from the start: `up` where seats are placed. It is no enum, since the laws of both directions are stated
+// once, for a truth value.
+#[derive(Clone, Copy)]
+pub struct Seating<'a> {
+    pub up: bool,
+    pub populations: &'a [u64],
+    pub seats: &'a [u64],
+    pub total: u64,
+    pub house: u64,
+    pub ghost sided: { Sided up populations.now total house seats.now } by { Prim.hlevel sided_props },
 }
 
-// State i gives up a seat rather than state j: only with one to spare, and then unless its last claim comes before the other's.
-fn gives_up_before(
-    populations: &[u64],
-    seats: &[u64],
-    total: u64,
-    house: u64,
-    i: usize,
-    j: usize,
-) -> bool
-    requires { Sided false populations.now total house seats.now × Pair populations.now i j }
-    ensures { result ≡ gives_up_before one_each (size_test populations.now house) seats.now i j }
-{
-    let a = seats[i];
-    let b = seats[j];
-    if a <= 1 {
-        return false;
+impl Seating<'_> {
+    // State i's next claim comes before state j's.
+    fn wants_before(&self, i: usize, j: usize) -> bool
+        requires { (self.now.up ≡ true) × Pair self.now.populations.now i j }
+        ensures { result ≡ wants_before (size_test self.now.populations.now self.now.house) self.now.seats.now i j }
+    {
+        climbs_before(
+            self.populations[i],
+            self.seats[i],
+            self.populations[j],
+            self.seats[j],
+            self.total,
+            self.house,
+        )
     }
-    if b <= 1 {
-        return true;
-    }
-    !falls_before(populations[i], a - 1, populations[j], b - 1, total, house)
-}
 
-// State i moves rather than state j.
-fn moves_before(
-    up: bool,
-    populations: &[u64],
-    seats: &[u64],
-    total: u64,
-    house: u64,
-    i: usize,
-    j: usize,
-) -> bool
-    requires { Sided up populations.now total house seats.now × Pair populations.now i j }
-    ensures { result ≡ moves_before up populations.now house seats.now i j }
-{
-    if up {
-        return wants_before(populations, seats, total, house, i, j);
-    }
-    gives_up_before(populations, seats, total, house, i, j)
-}
-
-// A state as the tournament holds it, in two bytes, so that there is little to clear where few seats move.
-pub fn wide(state: u16) -> usize
-    ensures { result ≡ state }
-{
-    state as usize
-}
-
-// The one of two states that moves: the earlier one, unless the later one moves rather than it.
-fn better_of(
-    up: bool,
-    populations: &[u64],
-    seats: &[u64],
-    total: u64,
-    house: u64,
-    i: u16,
-    j: u16,
-) -> u16
-    requires { Sided up populations.now total house seats.now × Pair populations.now i j }
-    ensures { result ≡ better_state up populations.now house seats.now i j }
-{
-    let first = wide(i);
-    let second = wide(j);
-    if i < j {
-        if moves_before(up, populations, seats, total, house, second, first) {
-            return j;
+    // State i gives up a seat rather than state j: only with one to spare, and then unless its last claim comes before the other's.
+    fn gives_up_before(&self, i: usize, j: usize) -> bool
+        requires { (self.now.up ≡ false) × Pair self.now.populations.now i j }
+        ensures { result ≡ gives_up_before one_each (size_test self.now.populations.now self.now.house) self.now.seats.now i j }
+    {
+        let a = self.seats[i];
+        let b = self.seats[j];
+        if a <= 1 {
+            return false;
         }
-        return i;
-    }
-    if moves_before(up, populations, seats, total, house, first, second) {
-        return i;
-    }
-    j
-}
-
-// Puts every state at its leaf.
-fn plant(states: usize, tree: &mut [u16])
-    requires { (length tree.old ≡ 2 * states) × (states ≤ state_limit) }
-    ensures { Planted states states tree.new }
-{
-    let mut i = 0;
-    while i < states {
-        tree[states + i] = i as u16;
-        i += 1;
+        if b <= 1 {
+            return true;
+        }
+        !falls_before(
+            self.populations[i],
+            a - 1,
+            self.populations[j],
+            b - 1,
+            self.total,
+            self.house,
+        )
     }
 }
 
-// Decides every inner place, from the last one to the root.
-pub fn build(up: bool, populations: &[u64], seats: &[u64], total: u64, house: u64, tree: &mut [u16])
-    requires { Sided up populations.now total house seats.now × (length tree.old ≡ 2 * length populations.now) }
-    ensures { Champions up populations.now house seats.now tree.new }
-{
-    plant(populations.len(), &mut tree[..]);
-    let mut k = populations.len() - 1;
-    while 0 < k {
-        tree[k] = better_of(
-            up,
-            populations,
-            seats,
-            total,
-            house,
-            tree[2 * k],
-            tree[2 * k + 1],
-        );
-        k -= 1;
-    }
-}
+impl Contest for Seating<'_> {
+    ghost entrants = { λ s. length s.populations.now };
 
-// Decides anew the places on the way up from the leaf of a state that moved, with the winner so far in hand. The two places that meet at
-// k / 2 add up to 4 (k / 2) + 1.
-pub fn replay(
-    up: bool,
-    populations: &[u64],
-    seats: &[u64],
-    total: u64,
-    house: u64,
-    state: u16,
-    tree: &mut [u16],
-)
-    requires { Sided up populations.now total house seats.now × Moved up populations.now house seats.now state tree.old }
-    ensures { Champions up populations.now house seats.now tree.new }
-{
-    let mut won = state;
-    let mut k = populations.len() + wide(state);
-    while k > 1 {
-        let other = 4 * (k / 2) + 1 - k;
-        won = better_of(up, populations, seats, total, house, won, tree[other]);
-        k /= 2;
-        tree[k] = won;
+    // State i moves rather than state j.
+    ghost before = { λ s. moves_before s.up s.populations.now s.house s.seats.now };
+
+    fn entrants(&self) -> usize {
+        self.populations.len()
+    }
+
+    #[tactic(auto, unfolding(claims::specs::inner::Moves::move_order))]
+    fn comes_before(&self, i: usize, j: usize) -> bool {
+        if self.up {
+            return self.wants_before(i, j);
+        }
+        self.gives_up_before(i, j)
     }
 }

@@ -1,12 +1,13 @@
 -- Document 01, "The register" and "Operations": the three kinds of line, from what is left of the bytes, and their checks in order.
-use Rattle.std.specs.Prelude.{◌∷◌, ◌+◌, Bool, true, false, cond, not, List, [], ℕ, zero, suc, ltb, eqb}
+use Rattle.std.specs.Prelude.{◌∷◌, ◌+◌, Bool, true, false, cond, not, List, [], Option, Some, None, Result, Ok, Err, ℕ}
+use Rattle.std.specs.Prelude.{zero, suc, ltb, eqb}
 use Rattle.apportionment.specs.Refusals.{accepted, line_ill_formed, number_out_of_limits, method_unknown, name_used, running_sum_too_large}
 use Rattle.apportionment.specs.Refusals.{total_differs, outside, first_refusal}
 use Rattle.apportionment.specs.Limits.{state_limit, house_limit, sum_limit}
 use Rattle.apportionment.specs.{Lists.same_list, Text.bytes_of, declared.Method.Method, declared.Method.TheVariants.Leximin}
 use Rattle.fields.specs.Grammar.{ended, line_of, rest_of, field_of, fields_after, is_number, value_of, is_name, is_method_field}
 use Rattle.fields.specs.Grammar.{method_named}
-use Rattle.fields.specs.{declared.Named.Named, declared.Named.TheVariants.Known, declared.Named.TheVariants.Unknown}
+use Rattle.apportionment.specs.{Refusals.refusal_number, declared.refusals.Refusal.Refusal}
 use Rattle.lines.specs.declared.head.Head.{Head}
 
 unfoldable pub method_field : List ℕ → List ℕ  -- The fields of the head.
@@ -26,11 +27,11 @@ head_formed is_ended word method house count =
 unfoldable pub is_head : List ℕ → Bool
 is_head s = head_formed (ended s) (field_of (line_of s)) (method_field s) (house_field s) (count_field s)
 
-unfoldable pub is_unknown : Named → Bool  -- A field names no method.
-is_unknown = elim [ Unknown ↦ true | Known m ↦ false ]
+unfoldable pub is_unknown : Option Method → Bool  -- A field names no method.
+is_unknown = elim [ None ↦ true | Some m ↦ false ]
 
-unfoldable pub method_in : Named → Method  -- The method that a field names; leximin where it names none.
-method_in = elim [ Unknown ↦ Leximin | Known m ↦ m ]
+unfoldable pub method_in : Option Method → Method  -- The method that a field names; leximin where it names none.
+method_in = elim [ None ↦ Leximin | Some m ↦ m ]
 
 unfoldable pub head_refusal : List ℕ → ℕ  -- The refusal of the head.
 head_refusal s = first_refusal (
@@ -40,16 +41,29 @@ head_refusal s = first_refusal (
     ∷ (outside state_limit (value_of (count_field s)), number_out_of_limits)
     ∷ [])
 
-unfoldable pub head_refused : ℕ → Head  -- A head that is refused: all but the number is 0, and the method is leximin.
+pub record HeadOutcome : Type 0 where  -- What comes of reading the head: its refusal, 0 for none, and what it says.
+  pub refusal : ℕ
+  pub method : Method
+  pub house : ℕ
+  pub states : ℕ
+
+unfoldable pub head_refused : ℕ → HeadOutcome  -- A head that is refused: all but the number is 0, and the method is leximin.
 head_refused refusal = record { refusal = refusal; method = Leximin; house = 0; states = 0 }
 
-unfoldable pub head_read : Named → (house states : ℕ) → Head  -- Not refused, it says its method, its house and its count of states.
+unfoldable pub head_read : Option Method → (house states : ℕ) → HeadOutcome  -- Not refused, it says its method, house and count of states.
 head_read named house states = record { refusal = accepted; method = method_in named; house = house; states = states }
 
-unfoldable pub head_of : List ℕ → Head  -- What the head says.
+unfoldable pub head_of : List ℕ → HeadOutcome  -- What the head says.
 head_of s =
     let read = head_read (method_named (method_field s)) (value_of (house_field s)) (value_of (count_field s)) in
     cond (eqb (head_refusal s) accepted) read (head_refused (head_refusal s))
+
+abbrev pub head_accepted : Head → HeadOutcome  -- So the code tells it: a head that is not refused, or the refusal.
+head_accepted head = record { refusal = accepted; method = head.method; house = head.house; states = head.states }
+
+abbrev pub head_outcome : Result Head Refusal → HeadOutcome
+head_outcome (Ok head) = head_accepted head
+head_outcome (Err refusal) = head_refused (refusal_number refusal)
 
 unfoldable pub name_at : List ℕ → List ℕ  -- The first field, which is the name on a state's line, and the number after it.
 name_at s = field_of (line_of s)

@@ -24,22 +24,19 @@ pub fn read_field(line: &[u8]) -> Field
 {
     let mut plain = true;
     let mut h: u64 = 0;
-    let mut i = 0;
-    while i < line.len() {
-        let b = line[i];
-        if b == COMMA {
+    for (end, b) in line.iter().enumerate() {
+        if *b == COMMA {
             return Field {
-                end: i,
+                end,
                 plain,
                 print: h as u32,
             };
         }
-        plain = plain & (32 <= b) & (b <= 126);
-        h = (h * FACTOR + b as u64) % SPAN;
-        i += 1;
+        plain &= (32..=126).contains(b);
+        h = (h * FACTOR + u64::from(*b)) % SPAN;
     }
     Field {
-        end: i,
+        end: line.len(),
         plain,
         print: h as u32,
     }
@@ -50,10 +47,8 @@ pub fn holds(prints: &[u32], print: u32) -> bool
     ensures { result ≡ holds print prints.now }
 {
     let mut found = false;
-    let mut i = 0;
-    while i < prints.len() {
-        found = found | (prints[i] == print);
-        i += 1;
+    for other in prints {
+        found |= *other == print;
     }
     found
 }

@@ -1,15 +1,15 @@
 // Line 1: `register`, method, house, count of states.
 ghost use Rattle.std.specs.Prelude.{◌≡◌};
-ghost use Rattle.lines.specs.Lines.{head_formed, head_refused, head_of};
+ghost use Rattle.lines.specs.Lines.{head_formed, head_of, head_outcome};
 ghost use Rattle.lines.specs.inner.Lines.{head_says};
 
-use apportionment::{HOUSE_LIMIT, Method, STATE_LIMIT, outside, refusals};
-use fields::{Named, cut, numbers, parts, words};
+use apportionment::refusals::Refusal;
+use apportionment::{HOUSE_LIMIT, Method, STATE_LIMIT, outside};
+use fields::{cut, numbers, words};
 
-// What line 1 says, or its refusal; 0 is no refusal. Refused, the rest is 0 and the method is leximin.
+// What line 1 says.
 #[derive(Clone, Copy)]
 pub struct Head {
-    pub refusal: u64,
     pub method: Method,
     pub house: u64,
     pub states: usize,
@@ -20,47 +20,35 @@ fn is_head(ended: bool, word: &[u8], method: &[u8], house: &[u8], count: &[u8]) 
     ensures { result ≡ head_formed ended word.now method.now house.now count.now }
 {
     ended
-        & parts::same(word, b"register")
+        & (word == b"register".as_slice())
         & words::is_method_field(method)
         & numbers::is_number(house)
         & numbers::is_number(count)
 }
 
-fn refused(refusal: u64) -> Head
-    ensures { result ≡ head_refused refusal }
-{
-    Head {
-        refusal,
-        method: Method::Leximin,
-        house: 0,
-        states: 0,
-    }
-}
-
 // What a well-formed head says: its method must be known, its house and its count within their limits.
-fn says(named: Named, house: u64, states: u64) -> Head
-    ensures { result ≡ head_says named house states }
+fn says(named: Option<Method>, house: u64, states: u64) -> Result<Head, Refusal>
+    ensures { head_outcome result ≡ head_says named house states }
 {
-    let Named::Known(method) = named else {
-        return refused(refusals::METHOD_UNKNOWN);
+    let Some(method) = named else {
+        return Err(Refusal::MethodUnknown);
     };
     if outside(HOUSE_LIMIT, house) {
-        return refused(refusals::NUMBER_OUT_OF_LIMITS);
+        return Err(Refusal::NumberOutOfLimits);
     }
     if outside(STATE_LIMIT as u64, states) {
-        return refused(refusals::NUMBER_OUT_OF_LIMITS);
+        return Err(Refusal::NumberOutOfLimits);
     }
-    Head {
-        refusal: 0,
+    Ok(Head {
         method,
         house,
         states: states as usize,
-    }
+    })
 }
 
 // Reads line 1.
-pub fn read_head(s: &[u8]) -> Head
-    ensures { result ≡ head_of s.now }
+pub fn read_head(s: &[u8]) -> Result<Head, Refusal>
+    ensures { head_outcome result ≡ head_of s.now }
 {
     let end = cut::line_end(s);
     let line = cut::line_to(s, end);
@@ -74,7 +62,7 @@ pub fn read_head(s: &[u8]) -> Head
     let house = cut::field_to(last, third);
     let count = cut::fields_from(last, third);
     if !is_head(cut::is_ended(s, end), word, method, house, count) {
-        return refused(refusals::LINE_ILL_FORMED);
+        return Err(Refusal::LineIllFormed);
     }
     says(
         words::method_named(method),

@@ -4,4 +4,12 @@
 
 mod fingerprints;
 pub mod head;
+pub mod names;
 pub mod pairs;
+
+// Where a name stands among the bytes of a register: the places of its first byte and of what follows its last one.
+#[derive(Clone, Copy)]
+pub struct NamePlace {
+    pub start: u32,
+    pub end: u32,
+}

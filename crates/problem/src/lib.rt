@@ -6,16 +6,15 @@
 ghost use Rattle.std.specs.Prelude.{◌≡◌};
 ghost use Rattle.apportionment.specs.Allotment.{states_outside, house_outside, has_zero, sum_outside, seats_every_state, seats_too_few};
 ghost use Rattle.apportionment.specs.Allotment.{allot_refusal, open_refusal};
+ghost use Rattle.apportionment.specs.Refusals.{refusal_of};
 ghost use Rattle.problem.specs.inner.Total.{capped_total};
 ghost use Rattle.problem.specs.inner.Passed.{problem_refusal};
 
-use apportionment::refusals::{
-    ACCEPTED, HOUSE_BELOW_STATES, HOUSE_OUT_OF_LIMITS, POPULATION_ZERO, SEAT_LIST_LENGTH,
-    STATES_OUT_OF_LIMITS, SUM_TOO_LARGE,
-};
+use apportionment::refusals::Refusal;
 use apportionment::{HOUSE_LIMIT, Method, STATE_LIMIT, SUM_LIMIT, outside};
 
 // 10: the number of states is outside its limits.
+#[tactic(auto, unfolding(apportionment::specs::Allotment::states_outside))]
 fn states_outside(populations: &[u64]) -> bool
     ensures { result ≡ states_outside populations.now }
 {
@@ -23,6 +22,7 @@ fn states_outside(populations: &[u64]) -> bool
 }
 
 // 11: the house is outside its limits.
+#[tactic(auto, unfolding(apportionment::specs::Allotment::house_outside))]
 fn house_outside(house: u64) -> bool
     ensures { result ≡ house_outside house }
 {
@@ -33,14 +33,7 @@ fn house_outside(house: u64) -> bool
 fn has_zero(populations: &[u64]) -> bool
     ensures { result ≡ has_zero populations.now }
 {
-    let mut i = 0;
-    while i < populations.len() {
-        if populations[i] == 0 {
-            return true;
-        }
-        i += 1;
-    }
-    false
+    populations.contains(&0)
 }
 
 // The sum of the populations, or one more than the limit where the sum passes it. Any numbers at all may be given: what is left to
@@ -49,14 +42,11 @@ pub fn total_of(populations: &[u64]) -> u64
     ensures { result ≡ capped_total populations.now }
 {
     let mut total: u64 = 0;
-    let mut i = 0;
-    while i < populations.len() {
-        let p = populations[i];
+    for &p in populations {
         if SUM_LIMIT - total < p {
             return SUM_LIMIT + 1;
         }
         total += p;
-        i += 1;
     }
     total
 }
@@ -72,74 +62,65 @@ fn sum_outside(populations: &[u64]) -> bool
 fn seats_every_state(method: Method) -> bool
     ensures { result ≡ seats_every_state method }
 {
-    match method {
-        Method::Leximin => true,
-        Method::Adams => true,
-        Method::Dean => true,
-        Method::Hill => true,
-        Method::Webster => false,
-        Method::Jefferson => false,
-        Method::Remainders => false,
-        Method::Quota => false,
-    }
+    matches!(
+        method,
+        Method::Leximin | Method::Adams | Method::Dean | Method::Hill
+    )
 }
 
 // 15: the house has fewer seats than there are states, under a method that gives each state one.
+#[tactic(auto, unfolding(apportionment::specs::Allotment::seats_too_few))]
 fn seats_too_few(method: Method, populations: &[u64], house: u64) -> bool
     ensures { result ≡ seats_too_few method populations.now house }
 {
-    if seats_every_state(method) {
-        return house < populations.len() as u64;
-    }
-    false
+    seats_every_state(method) && house < populations.len() as u64
 }
 
-// 10, 11, 12 or 13, or 0 where there is no refusal.
-pub fn problem_refusal(populations: &[u64], house: u64) -> u64
-    ensures { result ≡ problem_refusal populations.now house }
+// The checks that allotting and opening share: 10, 11, 12 or 13.
+pub fn check_problem(populations: &[u64], house: u64) -> Result<(), Refusal>
+    ensures { refusal_of result ≡ problem_refusal populations.now house }
 {
     if states_outside(populations) {
-        return STATES_OUT_OF_LIMITS;
+        return Err(Refusal::StatesOutOfLimits);
     }
     if house_outside(house) {
-        return HOUSE_OUT_OF_LIMITS;
+        return Err(Refusal::HouseOutOfLimits);
     }
     if has_zero(populations) {
-        return POPULATION_ZERO;
+        return Err(Refusal::PopulationZero);
     }
     if sum_outside(populations) {
-        return SUM_TOO_LARGE;
+        return Err(Refusal::SumTooLarge);
     }
-    ACCEPTED
+    Ok(())
 }
 
-// The refusal of allotting into a seat list of length `room`: 10 to 15, or 0 where there is none.
-pub fn allot_refusal(method: Method, house: u64, populations: &[u64], room: usize) -> u64
-    ensures { result ≡ allot_refusal method house populations.now room }
+// The checks of allotting into a seat list of length `room`: 10 to 15.
+pub fn check_allotting(
+    method: Method,
+    house: u64,
+    populations: &[u64],
+    room: usize,
+) -> Result<(), Refusal>
+    ensures { refusal_of result ≡ allot_refusal method house populations.now room }
 {
-    let refusal = problem_refusal(populations, house);
-    if refusal != ACCEPTED {
-        return refusal;
-    }
+    check_problem(populations, house)?;
     if room != populations.len() {
-        return SEAT_LIST_LENGTH;
+        return Err(Refusal::SeatListLength);
     }
     if seats_too_few(method, populations, house) {
-        return HOUSE_BELOW_STATES;
+        return Err(Refusal::HouseBelowStates);
     }
-    ACCEPTED
+    Ok(())
 }
 
-// The refusal of opening a placing: 10 to 13 or, as under leximin, 15; 0 where there is none.
-pub fn open_refusal(populations: &[u64], house: u64) -> u64
-    ensures { result ≡ open_refusal populations.now house }
+// The checks of opening a placing: 10 to 13 and, as under leximin, 15.
+pub fn check_opening(populations: &[u64], house: u64) -> Result<(), Refusal>
+    ensures { refusal_of result ≡ open_refusal populations.now house }
 {
-    let refusal = problem_refusal(populations, house);
-    if refusal != ACCEPTED {
-        return refusal;
-    }
+    check_problem(populations, house)?;
     if seats_too_few(Method::Leximin, populations, house) {
-        return HOUSE_BELOW_STATES;
+        return Err(Refusal::HouseBelowStates);
     }
-    ACCEPTED
+    Ok(())
 }

@@ -38,12 +38,9 @@ fn mark(population: u64, total: u64, seats: u64, due: &mut [u16])
     let whole = total / population;
     let left = total % population;
     let mut spot = Spot { place: 0, rest: 0 };
-    let mut a = 0;
-    while a < seats {
-        let place = spot.place as usize;
-        due[place] = due[place] + 1;
+    for _ in 0..seats {
+        due[spot.place as usize] += 1;
         spot = onward(spot, whole, left, population);
-        a += 1;
     }
 }
 
@@ -53,9 +50,7 @@ pub fn mark_all(populations: &[u64], total: u64, wholes: &[u64], due: &mut [u16]
     requires wholes_value { wholes.now ≡ whole_parts populations.now (length due.old) }
     ensures { Ready populations.now (length due.old) due.new }
 {
-    let mut i = 0;
-    while i < populations.len() {
-        mark(populations[i], total, wholes[i], due);
-        i += 1;
+    for (i, &population) in populations.iter().enumerate() {
+        mark(population, total, wholes[i], due);
     }
 }

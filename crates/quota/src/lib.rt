@@ -14,10 +14,9 @@ ghost use Rattle.apportionment.specs.inner.Problem.{Fillable};
 ghost use Rattle.quota.specs.inner.Play.{Room};
 
 use crate::due::mark_all;
-use crate::rounds::serve;
+use crate::rounds::{Queue, serve};
 use crate::start::{fill_keys, fill_outers, fill_wholes};
 use apportionment::{HOUSE_LIMIT, STATE_LIMIT};
-use keys::play;
 
 // Fills `seats` with the allotment of the quota method, with room lent by the caller.
 fn fill_with_room(
@@ -25,32 +24,21 @@ fn fill_with_room(
     total: u64,
     house: u64,
     due: &mut [u16],
-    outers: &mut [u64],
-    arrivals: &mut [usize],
-    keys: &mut [u64],
-    ranking: &mut [usize],
+    outside: &mut Queue<'_>,
+    waiting: &mut Queue<'_>,
     seats: &mut [u64],
 )
     requires fillable { Fillable populations.now total house seats.old }
-    requires room { Room populations.now house due.old outers.old arrivals.old keys.old ranking.old }
+    requires room { Room populations.now house due.old outside.old.keys.now outside.old.tree.now waiting.old.keys.now waiting.old.tree.now }
     ensures { seats.new ≡ quota_seats populations.now house }
 {
-    fill_wholes(populations, total, house, &mut seats[..]);
-    mark_all(populations, total, &seats[..], &mut due[..]);
-    fill_outers(populations, total, house, &seats[..], &mut outers[..]);
-    fill_keys(populations, total, house, &seats[..], &mut keys[..]);
-    play(&outers[..], &mut arrivals[..]);
-    play(&keys[..], &mut ranking[..]);
-    serve(
-        populations,
-        house,
-        &due[..],
-        seats,
-        outers,
-        arrivals,
-        keys,
-        ranking,
-    );
+    fill_wholes(populations, total, house, seats);
+    mark_all(populations, total, seats, due);
+    fill_outers(populations, total, house, seats, outside.keys);
+    fill_keys(populations, total, house, seats, waiting.keys);
+    outside.play();
+    waiting.play();
+    serve(populations, house, due, seats, outside, waiting);
 }
 
 // Fills `seats` with it, with a count of 0 for each number of the house lent by the caller.
@@ -64,15 +52,21 @@ fn fill_counted(populations: &[u64], total: u64, house: u64, due: &mut [u16], se
     let mut arrivals = [0usize; 2 * STATE_LIMIT];
     let mut keys = [0u64; STATE_LIMIT];
     let mut ranking = [0usize; 2 * STATE_LIMIT];
+    let mut outside = Queue {
+        keys: &mut outers[..states],
+        tree: &mut arrivals[..2 * states],
+    };
+    let mut waiting = Queue {
+        keys: &mut keys[..states],
+        tree: &mut ranking[..2 * states],
+    };
     fill_with_room(
         populations,
         total,
         house,
         due,
-        &mut outers[..states],
-        &mut arrivals[..2 * states],
-        &mut keys[..states],
-        &mut ranking[..2 * states],
+        &mut outside,
+        &mut waiting,
         seats,
     );
 }

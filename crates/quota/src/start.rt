@@ -13,10 +13,8 @@ pub fn fill_wholes(populations: &[u64], total: u64, house: u64, seats: &mut [u64
     requires { Fillable populations.now total house seats.old }
     ensures { seats.new ≡ whole_parts populations.now house }
 {
-    let mut i = 0;
-    while i < populations.len() {
-        seats[i] = populations[i] * house / total;
-        i += 1;
+    for (i, &population) in populations.iter().enumerate() {
+        seats[i] = population * house / total;
     }
 }
 
@@ -43,15 +41,14 @@ fn first_key(population: u64, whole: u64) -> u64
     0
 }
 
-// Enters the states that are outside at first.
+// Enters the states that are outside at first. It stands apart from `fill_keys`: one function with a closure for the entry would need
+// clauses at the closures that are longer than the two loops.
 pub fn fill_outers(populations: &[u64], total: u64, house: u64, wholes: &[u64], outers: &mut [u64])
     requires { Fillable populations.now total house outers.old × (wholes.now ≡ whole_parts populations.now house) }
     ensures { outers.new ≡ list_of (outer_of populations.now house) (length populations.now) }
 {
-    let mut i = 0;
-    while i < populations.len() {
-        outers[i] = outer_of(populations[i], total, house, wholes[i]);
-        i += 1;
+    for (i, &population) in populations.iter().enumerate() {
+        outers[i] = outer_of(population, total, house, wholes[i]);
     }
 }
 
@@ -60,9 +57,7 @@ pub fn fill_keys(populations: &[u64], total: u64, house: u64, wholes: &[u64], ke
     requires { Fillable populations.now total house keys.old × (wholes.now ≡ whole_parts populations.now house) }
     ensures { keys.new ≡ list_of (first_key_of populations.now house) (length populations.now) }
 {
-    let mut i = 0;
-    while i < populations.len() {
-        keys[i] = first_key(populations[i], wholes[i]);
-        i += 1;
+    for (i, &population) in populations.iter().enumerate() {
+        keys[i] = first_key(population, wholes[i]);
     }
 }

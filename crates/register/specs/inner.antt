@@ -1,5 +1,6 @@
 -- What a register that is read holds, its rows and where their names stand, and document 01's registers.
 pub mod Register
+pub mod Lines
 pub mod Names
 pub mod Sound
 pub mod Examples

@@ -5,7 +5,7 @@ ghost use Rattle.register.specs.Register.{rows_of, lines_after, name_in_row};
 ghost use Rattle.register.specs.inner.Rows.{PlacedAt};
 
 use fields::cut;
-use lines::pairs;
+use lines::{NamePlace, pairs};
 
 // The rows of a register: what is left after its head.
 pub fn of(bytes: &[u8]) -> &[u8]
@@ -26,11 +26,8 @@ pub fn after(rows: &[u8], k: usize) -> &[u8]
     ensures { result.now ≡ lines_after k rows.now }
 {
     let mut t = rows;
-    let mut left = k;
-    while 0 < left {
-        let u = cut::rest(t);
-        t = u;
-        left -= 1;
+    for _ in 0..k {
+        t = cut::rest(t);
     }
     t
 }
@@ -50,11 +47,9 @@ pub fn name_on(rows: &[u8], place: usize) -> &[u8]
 }
 
 // The same by the places that `register::read_places` filled in: no row is cut again.
-pub fn name_placed<'a>(rows: &'a [u8], starts: &[u32], ends: &[u32], place: usize) -> &'a [u8]
-    requires { PlacedAt place rows.now starts.now ends.now }
+pub fn name_placed<'a>(rows: &'a [u8], places: &[NamePlace], place: usize) -> &'a [u8]
+    requires { PlacedAt place rows.now places.now }
     ensures { result.now ≡ name_in_row rows.now place }
 {
-    let start = starts[place] as usize;
-    let end = ends[place] as usize;
-    &rows[start..end]
+    places[place].part(rows)
 }

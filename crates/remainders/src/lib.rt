@@ -10,7 +10,8 @@ ghost use Rattle.bar.specs.inner.Search.{Searchable};
 ghost use Rattle.remainders.specs.inner.Seats.{Filled, HasRoom, RoomFrom, ServedTo, served_from, served};
 
 use apportionment::{STATE_LIMIT, SUM_LIMIT};
-use bar::{bar_of, greater, lesser};
+use bar::bar_of;
+use std::cmp::{max, min};
 
 // What a remainder counts in a precedence: more than any population.
 const REMAINDER_WEIGHT: u64 = SUM_LIMIT + 1;
@@ -24,9 +25,6 @@ fn precedence(population: u64, whole: u64, total: u64, house: u64) -> u64
     let remainder = population * house - whole * total;
     remainder * REMAINDER_WEIGHT + population
 }
-
-// The largest number there is: no state is above it.
-const LARGEST: u64 = 18_446_744_073_709_551_615;
 
 // What filling hands back: the seats given as whole parts, and the least and the greatest precedence.
 #[derive(Clone, Copy)]
@@ -49,19 +47,16 @@ fn fill_parts(
     ensures { Filled populations.now house precedences.new seats.new result }
 {
     let mut given: u64 = 0;
-    let mut least = LARGEST;
+    let mut least = u64::MAX;
     let mut greatest: u64 = 0;
-    let mut i = 0;
-    while i < populations.len() {
-        let population = populations[i];
+    for (i, &population) in populations.iter().enumerate() {
         let whole = population * house / total;
         let own = precedence(population, whole, total, house);
         seats[i] = whole;
         precedences[i] = own;
         given += whole;
-        least = lesser(least, own);
-        greatest = greater(greatest, own);
-        i += 1;
+        least = min(least, own);
+        greatest = max(greatest, own);
     }
     Parts {
         given,
@@ -90,13 +85,11 @@ fn extra_seat(own: u64, bar: u64, spare: u64) -> u64
 fn spare_after(own: u64, bar: u64, spare: u64) -> u64
     ensures { result ≡ spare_after own bar spare }
 {
-    if own != bar {
-        return spare;
+    if own == bar {
+        spare.saturating_sub(1)
+    } else {
+        spare
     }
-    if spare == 0 {
-        return 0;
-    }
-    spare - 1
 }
 
 // Serves the states in register order until no seat is to spare, and answers the place reached.
@@ -105,18 +98,14 @@ fn serve_spare(precedences: &[u64], bar: u64, spare: u64, seats: &mut [u64]) -> 
     ensures { ServedTo precedences.now bar spare seats.old result seats.new }
 {
     let mut rest = spare;
-    let mut i = 0;
-    while i < precedences.len() {
+    for (i, &own) in precedences.iter().enumerate() {
         if rest == 0 {
             return i;
         }
-        let own = precedences[i];
-        let extra = extra_seat(own, bar, rest);
-        seats[i] = seats[i] + extra;
+        seats[i] += extra_seat(own, bar, rest);
         rest = spare_after(own, bar, rest);
-        i += 1;
     }
-    i
+    precedences.len()
 }
 
 // Serves the states from a place on, with no seat to spare: apart from `serve_spare`, since no place here waits for the one before it.
@@ -124,11 +113,8 @@ fn serve_above(precedences: &[u64], bar: u64, from: usize, seats: &mut [u64])
     requires { RoomFrom precedences.now from seats.old }
     ensures { seats.new ≡ served_from precedences.now bar from seats.old }
 {
-    let mut i = from;
-    while i < precedences.len() {
-        let extra = extra_seat(precedences[i], bar, 0);
-        seats[i] = seats[i] + extra;
-        i += 1;
+    for i in from..precedences.len() {
+        seats[i] += extra_seat(precedences[i], bar, 0);
     }
 }
 

@@ -1,229 +1,120 @@
-// The lines of the work, each written from a place on; see crate `text` for what that place is.
-ghost use Rattle.std.specs.Prelude.{◌≡◌, [], ◌<◌, ◌≤◌, length};
+// The lines of the work, each written on a page.
+ghost use Rattle.std.specs.Prelude.{◌≡◌, ◌<◌, ◌≤◌};
 ghost use Rattle.apportionment.specs.Limits.{house_limit};
 ghost use Rattle.apportionment.specs.Quantities.{departure_text};
-ghost use Rattle.departure.specs.inner.Answer.{InLimits, AllInLimits};
-ghost use Rattle.writing.specs.inner.Writing.{Wrote};
-ghost use Rattle.showing.specs.Work.{head_line, state_line, state_lines, seats_if_moved, moved_text, weighed_line, weighed_lines};
-ghost use Rattle.showing.specs.Work.{verb_text, step_line};
-ghost use Rattle.showing.specs.inner.Showable.{Weighable};
+ghost use Rattle.departure.specs.inner.Answer.{InLimits};
+ghost use Rattle.writing.specs.inner.Page.{Appended};
+ghost use Rattle.showing.specs.Work.{head_line, state_line, seats_if_moved, moved_text, weighed_line, verb_text, step_line};
 
 use departure::departure_of;
-use register::rows::{first_name, rest};
 use text::answers;
-
-// The departure of a state, or `none` where it has no seat.
-fn put_departure(
-    out: &mut [u8],
-    at: usize,
-    population: u64,
-    seats: u64,
-    sum: u64,
-    house: u64,
-) -> usize
-    requires { InLimits population seats sum house }
-    ensures { Wrote out.old at (departure_text population seats sum house) out.new result }
-{
-    answers::put_departure(out, at, departure_of(population, seats, sum, house))
-}
+use writing::Page;
 
 // The first line.
-pub fn put_head(out: &mut [u8], at: usize, house: u64, states: u64) -> usize
-    ensures { Wrote out.old at (head_line house states) out.new result }
+pub fn put_head(page: &mut Page, house: u64, states: u64)
+    ensures { Appended page.old (head_line house states) page.new }
 {
-    let word = writing::put_bytes(out, at, b"work,leximin");
-    let numbers = text::put_numbers(out, word, house, states);
-    writing::put_byte(out, numbers, b'\n')
-}
-
-// A state with its seats and departure, on a line that starts with `word`.
-fn put_state(
-    out: &mut [u8],
-    at: usize,
-    word: &[u8],
-    name: &[u8],
-    population: u64,
-    seats: u64,
-    sum: u64,
-    house: u64,
-) -> usize
-    requires { InLimits population seats sum house }
-    ensures { Wrote out.old at (state_line word.now name.now population seats sum house)
-        out.new result }
-{
-    let begun = writing::put_bytes(out, at, word);
-    let named = writing::put_bytes(out, begun, name);
-    let numbers = text::put_numbers(out, named, population, seats);
-    let comma = writing::put_byte(out, numbers, b',');
-    let shown = put_departure(out, comma, population, seats, sum, house);
-    writing::put_byte(out, shown, b'\n')
-}
-
-// The lines of the states. Their names are on the lines of the register that start at `rows`.
-pub fn put_states(
-    out: &mut [u8],
-    at: usize,
-    word: &[u8],
-    rows: &[u8],
-    populations: &[u64],
-    seats: &[u64],
-    sum: u64,
-    house: u64,
-) -> usize
-    requires { Wrote out.old at [] out.old at × AllInLimits populations.now seats.now sum house }
-    ensures { Wrote out.old at
-        (state_lines word.now rows.now populations.now seats.now sum house
-        (length populations.now)) out.new result }
-{
-    let mut next = at;
-    let mut row = rows;
-    let mut k = 0;
-    while k < populations.len() {
-        next = put_state(
-            out,
-            next,
-            word,
-            first_name(row),
-            populations[k],
-            seats[k],
-            sum,
-            house,
-        );
-        let later = rest(row);
-        row = later;
-        k += 1;
-    }
-    next
+    page.put_bytes(b"work,leximin");
+    text::put_numbers(page, house, states);
+    page.put_byte(b'\n');
 }
 
 // The seats of a state if it moves.
-fn seats_if_moved(adds: bool, seats: u64) -> u64
+#[tactic(auto, unfolding(crate::specs::Work::seats_if_moved))]
+pub fn seats_if_moved(adds: bool, seats: u64) -> u64
     requires { (0 < seats) × (seats_if_moved adds seats ≤ house_limit) }
     ensures { result ≡ seats_if_moved adds seats }
 {
-    if adds {
-        return seats + 1;
-    }
-    seats - 1
-}
-
-// A state with its seats and departure before a move and after it.
-fn put_moved(
-    out: &mut [u8],
-    at: usize,
-    name: &[u8],
-    population: u64,
-    from: u64,
-    to: u64,
-    sum: u64,
-    house: u64,
-) -> usize
-    requires { InLimits population from sum house × InLimits population to sum house }
-    ensures { Wrote out.old at (moved_text name.now population from to sum house) out.new result }
-{
-    let named = writing::put_bytes(out, at, name);
-    let numbers = text::put_numbers(out, named, from, to);
-    let comma = writing::put_byte(out, numbers, b',');
-    let old = put_departure(out, comma, population, from, sum, house);
-    let next = writing::put_byte(out, old, b',');
-    put_departure(out, next, population, to, sum, house)
-}
-
-// A state weighed before a step: as it is, and as it would be if it moved.
-fn put_weighed(
-    out: &mut [u8],
-    at: usize,
-    step: u64,
-    name: &[u8],
-    population: u64,
-    seats: u64,
-    moved: u64,
-    sum: u64,
-    house: u64,
-) -> usize
-    requires { InLimits population seats sum house × InLimits population moved sum house }
-    ensures { Wrote out.old at (weighed_line step name.now population seats moved sum house)
-        out.new result }
-{
-    let word = writing::put_bytes(out, at, b"weighed,");
-    let number = writing::put_decimal(out, word, step);
-    let comma = writing::put_byte(out, number, b',');
-    let shown = put_moved(out, comma, name, population, seats, moved, sum, house);
-    writing::put_byte(out, shown, b'\n')
-}
-
-// Every state weighed before a step that adds a seat or withdraws one.
-pub fn put_weighings(
-    out: &mut [u8],
-    at: usize,
-    step: u64,
-    adds: bool,
-    rows: &[u8],
-    populations: &[u64],
-    seats: &[u64],
-    sum: u64,
-    house: u64,
-) -> usize
-    requires { Wrote out.old at [] out.old at × Weighable adds populations.now seats.now sum house }
-    ensures { Wrote out.old at
-        (weighed_lines step adds rows.now populations.now seats.now sum house
-        (length populations.now)) out.new result }
-{
-    let mut next = at;
-    let mut row = rows;
-    let mut k = 0;
-    while k < populations.len() {
-        let held = seats[k];
-        next = put_weighed(
-            out,
-            next,
-            step,
-            first_name(row),
-            populations[k],
-            held,
-            seats_if_moved(adds, held),
-            sum,
-            house,
-        );
-        let later = rest(row);
-        row = later;
-        k += 1;
-    }
-    next
+    if adds { seats + 1 } else { seats - 1 }
 }
 
 // What the state does that goes from so many seats to so many.
-fn put_verb(out: &mut [u8], at: usize, from: u64, to: u64) -> usize
-    ensures { Wrote out.old at (verb_text from to) out.new result }
+#[tactic(auto, unfolding(crate::specs::Work::verb_text))]
+fn put_verb(page: &mut Page, from: u64, to: u64)
+    ensures { Appended page.old (verb_text from to) page.new }
 {
     if from < to {
-        return writing::put_bytes(out, at, b",gains,");
+        page.put_bytes(b",gains,");
+    } else {
+        page.put_bytes(b",gives up,");
     }
-    writing::put_bytes(out, at, b",gives up,")
 }
 
-// A step: the state that moved, with its seats and departures before and after, and the total afterwards.
-pub fn put_step(
-    out: &mut [u8],
-    at: usize,
-    step: u64,
-    name: &[u8],
-    population: u64,
-    from: u64,
-    to: u64,
-    sum: u64,
-    house: u64,
-    total: u64,
-) -> usize
-    requires { InLimits population from sum house × InLimits population to sum house }
-    ensures { Wrote out.old at (step_line step name.now population from to sum house total)
-        out.new result }
-{
-    let word = writing::put_bytes(out, at, b"step,");
-    let number = writing::put_decimal(out, word, step);
-    let verb = put_verb(out, number, from, to);
-    let shown = put_moved(out, verb, name, population, from, to, sum, house);
-    let comma = writing::put_byte(out, shown, b',');
-    let all = writing::put_decimal(out, comma, total);
-    writing::put_byte(out, all, b'\n')
+// A state whose lines are written: its name and population, and what its departures are told from beside them, the sum of the populations
+// and the house.
+#[derive(Clone, Copy)]
+pub struct State<'a> {
+    pub name: &'a [u8],
+    pub population: u64,
+    pub sum: u64,
+    pub house: u64,
+}
+
+impl State<'_> {
+    // Its departure with so many seats, or `none` where that is no seat.
+    fn put_departure(self, page: &mut Page, seats: u64)
+        requires { InLimits self.population seats self.sum self.house }
+        ensures { Appended page.old (departure_text self.entry.population seats self.entry.sum self.entry.house) page.new }
+    {
+        answers::put_departure(
+            page,
+            departure_of(self.population, seats, self.sum, self.house),
+        );
+    }
+
+    // With its seats and departure, on a line that starts with `word`.
+    pub fn put_line(self, page: &mut Page, word: &[u8], seats: u64)
+        requires { InLimits self.population seats self.sum self.house }
+        ensures { Appended page.old
+            (state_line word.now self.entry.name.now self.entry.population seats self.entry.sum self.entry.house) page.new }
+    {
+        page.put_bytes(word);
+        page.put_bytes(self.name);
+        text::put_numbers(page, self.population, seats);
+        page.put_byte(b',');
+        self.put_departure(page, seats);
+        page.put_byte(b'\n');
+    }
+
+    // With its seats and departure before a move and after it.
+    fn put_moved(self, page: &mut Page, from: u64, to: u64)
+        requires { InLimits self.population from self.sum self.house × InLimits self.population to self.sum self.house }
+        ensures { Appended page.old
+            (moved_text self.entry.name.now self.entry.population from to self.entry.sum self.entry.house) page.new }
+    {
+        page.put_bytes(self.name);
+        text::put_numbers(page, from, to);
+        page.put_byte(b',');
+        self.put_departure(page, from);
+        page.put_byte(b',');
+        self.put_departure(page, to);
+    }
+
+    // Weighed before a step: as it is, and as it would be if it moved.
+    pub fn put_weighed(self, page: &mut Page, step: u64, seats: u64, moved: u64)
+        requires { InLimits self.population seats self.sum self.house × InLimits self.population moved self.sum self.house }
+        ensures { Appended page.old
+            (weighed_line step self.entry.name.now self.entry.population seats moved self.entry.sum self.entry.house) page.new }
+    {
+        page.put_bytes(b"weighed,");
+        page.put_decimal(step);
+        page.put_byte(b',');
+        self.put_moved(page, seats, moved);
+        page.put_byte(b'\n');
+    }
+
+    // A step that it made: its seats and departures before and after, and the total afterwards.
+    pub fn put_step(self, page: &mut Page, step: u64, from: u64, to: u64, total: u64)
+        requires { InLimits self.population from self.sum self.house × InLimits self.population to self.sum self.house }
+        ensures { Appended page.old
+            (step_line step self.entry.name.now self.entry.population from to self.entry.sum self.entry.house total) page.new }
+    {
+        page.put_bytes(b"step,");
+        page.put_decimal(step);
+        put_verb(page, from, to);
+        self.put_moved(page, from, to);
+        page.put_byte(b',');
+        page.put_decimal(total);
+        page.put_byte(b'\n');
+    }
 }

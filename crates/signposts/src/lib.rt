@@ -13,7 +13,8 @@ ghost use Rattle.signposts.specs.inner.Claims.{claim_for, ClaimFits};
 use crate::table::signpost_of;
 use apportionment::DivisorMethod;
 
-// A claim d(a) / w; also a signpost d(a), the claim of a weight of 1.
+// A claim d(a) / w; also a signpost d(a), the claim of a weight of 1. It has no `Ord`, since claims may be level and yet differ, as 1 / 2
+// and 2 / 4.
 #[derive(Clone, Copy)]
 pub struct Claim {
     pub over: u64,
@@ -21,6 +22,7 @@ pub struct Claim {
 }
 
 // A population as the method's quotient counts it; Hill's squared.
+#[tactic(auto, unfolding(apportionment::specs::Divisor::weight_of))]
 pub fn weight_of(method: DivisorMethod, population: u64) -> u64
     requires { population ≤ sum_limit }
     ensures { result ≡ weight_of method population }
@@ -32,6 +34,7 @@ pub fn weight_of(method: DivisorMethod, population: u64) -> u64
 }
 
 // The claim of a state with so many seats to one more.
+#[tactic(auto, using(crate::specs::inner::Claims::under_fits), unfolding(apportionment::specs::Divisor::claim_of))]
 pub fn claim_of(method: DivisorMethod, population: u64, seats: u64) -> Claim
     requires { ClaimFits population seats }
     ensures { result ≡ claim_for method population seats }

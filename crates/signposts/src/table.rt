@@ -22,6 +22,7 @@ const SIGNPOSTS: [[u64; 5]; 5] = [
 ];
 
 // What a row stands for, at so many seats.
+#[tactic(auto, using(crate::specs::inner::Table::line_at_most, crate::specs::inner::Table::quadratic_at_most))]
 fn row_at(row: [u64; 5], seats: u64) -> Claim
     requires { RowFits row seats }
     ensures { result ≡ held (row_signpost row seats) }
@@ -33,16 +34,17 @@ fn row_at(row: [u64; 5], seats: u64) -> Claim
 }
 
 // The signpost d(a) of a method, Hill's squared: what its row stands for.
+#[tactic(auto, unfolding(apportionment::specs::Lists::sum, apportionment::specs::Divisor::signpost))]
 pub fn signpost_of(method: DivisorMethod, seats: u64) -> Claim
     requires { seats ≤ seat_limit }
     ensures { result ≡ held (signpost method seats) }
 {
-    let rows = SIGNPOSTS;
+    let [adams, dean, hill, webster, jefferson] = SIGNPOSTS;
     match method {
-        DivisorMethod::Adams => row_at(rows[0], seats),
-        DivisorMethod::Dean => row_at(rows[1], seats),
-        DivisorMethod::Hill => row_at(rows[2], seats),
-        DivisorMethod::Webster => row_at(rows[3], seats),
-        DivisorMethod::Jefferson => row_at(rows[4], seats),
+        DivisorMethod::Adams => row_at(adams, seats),
+        DivisorMethod::Dean => row_at(dean, seats),
+        DivisorMethod::Hill => row_at(hill, seats),
+        DivisorMethod::Webster => row_at(webster, seats),
+        DivisorMethod::Jefferson => row_at(jefferson, seats),
     }
 }

@@ -4,28 +4,22 @@
 pub mod quotients;
 
 ghost use Rattle.std.specs.Prelude.{◌≡◌, ◌+◌};
-ghost use Rattle.apportionment.specs.Quantities.{distance};
 ghost use Rattle.sizes.specs.inner.Sizes.{WithSeats, SizeIs, less_size, Small, first_then, ClaimIs, less_claim, SmallClaim};
 
 // A size |p H - a P| / a. The factor P of its denominator is the same for every size of a problem, so it is left out, and products of
-// two such numbers stay below 2^63.
+// two such numbers stay below 2^63. It has no `Ord`, whose methods ask nothing of two values and call only equal pairs of numbers equal:
+// the products below fit for small sizes alone, and 1 / 2 and 2 / 4 are equal sizes.
 #[derive(Clone, Copy)]
 pub struct Size {
     pub over: u64,
     pub under: u64,
 }
 
-// The two sizes of a claim: at the seats that the state has, and with one more.
+// The two sizes of a claim: at the seats that the state has, and with one more. It has no `Ord`, for the reasons that a size has none.
 #[derive(Clone, Copy)]
 pub struct Claim {
     pub old: Size,
     pub new: Size,
-}
-
-fn distance_of(x: u64, y: u64) -> u64
-    ensures { result ≡ distance x y }
-{
-    if x < y { y - x } else { x - y }
 }
 
 pub fn size_of(population: u64, seats: u64, total: u64, house: u64) -> Size
@@ -33,11 +27,12 @@ pub fn size_of(population: u64, seats: u64, total: u64, house: u64) -> Size
     ensures { SizeIs population seats total house result }
 {
     Size {
-        over: distance_of(population * house, seats * total),
+        over: (population * house).abs_diff(seats * total),
         under: seats,
     }
 }
 
+#[tactic(auto, unfolding(crate::specs::inner::Sizes::less_size))]
 pub fn size_less(s: Size, t: Size) -> bool
     requires { Small s × Small t }
     ensures { result ≡ less_size s t }
@@ -46,6 +41,7 @@ pub fn size_less(s: Size, t: Size) -> bool
 }
 
 // s is less than t or, where they are equal, u is less than v.
+#[tactic(auto, unfolding(crate::specs::inner::Sizes::first_then))]
 fn first_then(s: Size, t: Size, u: Size, v: Size) -> bool
     requires { (Small s × Small t) × (Small u × Small v) }
     ensures { result ≡ first_then s t u v }
@@ -69,28 +65,25 @@ pub fn claim_of(population: u64, seats: u64, total: u64, house: u64) -> Claim
 }
 
 // One claim comes before the other.
+#[tactic(auto, unfolding(crate::specs::inner::Sizes::less_claim))]
 pub fn claim_less(own: Claim, other: Claim) -> bool
     requires { SmallClaim own × SmallClaim other }
     ensures { result ≡ less_claim own other }
 {
-    let own_old = own.old;
-    let own_new = own.new;
-    let other_old = other.old;
-    let other_new = other.new;
-    if size_less(own_new, own_old) {
-        if size_less(other_new, other_old) {
-            return first_then(other_old, own_old, own_new, other_new);
+    if size_less(own.new, own.old) {
+        if size_less(other.new, other.old) {
+            return first_then(other.old, own.old, own.new, other.new);
         }
         return true;
     }
-    if size_less(other_new, other_old) {
+    if size_less(other.new, other.old) {
         return false;
     }
-    if size_less(own_old, own_new) {
-        if size_less(other_old, other_new) {
-            return first_then(own_new, other_new, other_old, own_old);
+    if size_less(own.old, own.new) {
+        if size_less(other.old, other.new) {
+            return first_then(own.new, other.new, other.old, own.old);
         }
         return false;
     }
-    size_less(other_old, other_new)
+    size_less(other.old, other.new)
 }

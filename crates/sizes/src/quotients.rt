@@ -39,7 +39,8 @@ pub fn climbs_before(p: u64, a: u64, q: u64, b: u64, total: u64, house: u64) -> 
     size_less(other_size, own_size)
 }
 
-// Of two claims below the start, that of population p with a seats comes before that of q with b.
+// Of two claims below the start, that of population p with a seats comes before that of q with b. It differs from `climbs_before` in each
+// number and each answer, so no one function serves both.
 pub fn falls_before(p: u64, a: u64, q: u64, b: u64, total: u64, house: u64) -> bool
     requires { FallingClaim p a total house × FallingClaim q b total house }
     ensures { result ≡ size_before total house p a q b }

@@ -2,14 +2,18 @@
 #![tactic(auto)]
 
 ghost use Rattle.std.specs.Counts.{IsPrefixLen};
+ghost use Rattle.std.specs.Fn.{FnOnceReturnsAtMut};
 ghost use Rattle.std.specs.Io.KnownBytes.{Consumes, IsAtEnd};
-ghost use Rattle.std.specs.Prelude.{◌≡◌, ◌<◌, length, take, IsTrue};
+ghost use Rattle.streams.specs.inner.Pages.{WritesWithin};
+ghost use Rattle.std.specs.Prelude.{◌≡◌, ◌<◌, ◌≤◌, ℕ, length, take, IfOk, IsErr, MatchResult, OnErr};
 
 use apportionment::REGISTER_LIMIT;
+use std::convert::AsSlice;
 use std::env::FillError;
 use std::io::{Read, Write};
 use std::rt::{Env, Files};
-use std::{fs, io};
+use std::str::Utf8Error;
+use std::{fmt, fs, io};
 
 // Room for a register and one byte more, so that a longer input is told from one that just fits.
 pub const REGISTER_ROOM: usize = REGISTER_LIMIT + 1;
@@ -20,130 +24,134 @@ const PATH_ROOM: usize = 4096;
 // Room for what is told of an error.
 const REASON_ROOM: usize = 128;
 
-// What was read: its length, and whether that is all there was, as far as there is room for it.
-#[derive(Drop)]
-pub struct Input {
-    pub whole: bool,
-    pub length: usize,
+// The error of a step that failed and was told on standard error, so that whoever meets it has nothing left to say.
+#[derive(Clone, Copy, Debug, PartialEq, Eq)]
+pub struct Told;
+
+// Why a step failed.
+#[derive(Clone, Copy)]
+enum Failure {
+    System(io::Error),
+    NotText,
+    PathTooLong,
+    NoSuchArgument,
 }
 
-// Writes a line to standard error: what failed, a colon and why.
-fn tell(rt: &impl Eprint, source: &str, reason: &str) {
-    let _ = eprintln!(rt; "{source}: {reason}");
+impl From<io::Error> for Failure {
+    fn from(error: io::Error) -> Failure {
+        Failure::System(error)
+    }
 }
 
-// The same for an error of the system, in the system's own words: those that `io::Error` prints, without the number that it adds to them.
-fn fail(rt: &impl Eprint, source: &str, error: &io::Error) {
-    let mut page = [0u8; REASON_ROOM];
-    let mut free = &mut page[..];
-    let _ = write!(free, "{error}");
-    let told = str::from_utf8(&page).unwrap_or("");
-    tell(rt, source, before(before(told, "\0"), " (os error "));
+impl From<Utf8Error> for Failure {
+    fn from(_error: Utf8Error) -> Failure {
+        Failure::NotText
+    }
+}
+
+impl From<FillError> for Failure {
+    fn from(error: FillError) -> Failure {
+        match error {
+            FillError::TooLong => Failure::PathTooLong,
+            FillError::NotPresent => Failure::NoSuchArgument,
+        }
+    }
+}
+
+// The system's own words for each: those that `io::Error` prints stand before the number that it adds to them.
+impl fmt::Display for Failure {
+    fn fmt<W: fmt::Write>(&self, f: &mut fmt::Formatter<W>) -> fmt::Result {
+        match self {
+            Failure::System(error) => {
+                let mut page = [0u8; REASON_ROOM];
+                let mut free = &mut page[..];
+                let _ = write!(free, "{error}");
+                let words = str::from_utf8(&page).unwrap_or("");
+                f.write_str(before(before(words, "\0"), " (os error "))
+            }
+            Failure::NotText => f.write_str("Invalid or incomplete multibyte or wide character"),
+            Failure::PathTooLong => f.write_str("File name too long"),
+            Failure::NoSuchArgument => f.write_str("Invalid argument"),
+        }
+    }
 }
 
 // What stands before a mark, or all of the text where it has none.
 fn before<'a>(text: &'a str, mark: &str) -> &'a str {
-    match text.split_once(mark) {
-        Some((front, _)) => front,
-        None => text,
-    }
+    text.split_once(mark).map_or(text, |(front, _)| front)
 }
 
-// Nothing was read, and why is told.
-fn unread(rt: &impl Eprint, source: &str, reason: &str) -> Input
-    ensures { result.length ≡ 0 }
+// Tells on standard error what failed, if it did: what it was about, a colon and why.
+fn or_tell<T>(rt: &impl Eprint, source: &str, outcome: Result<T, Failure>) -> Result<T, Told>
+    ensures { MatchResult outcome (λ value. result ≡ Ok value) (λ _. IsErr result) }
 {
-    tell(rt, source, reason);
-    Input {
-        whole: false,
-        length: 0,
+    match outcome {
+        Ok(value) => Ok(value),
+        Err(reason) => {
+            let _ = eprintln!(rt; "{source}: {reason}");
+            Err(Told)
+        }
     }
 }
 
-// Reads what a reader gives, in however many pieces it comes, until the buffer is full or the input ends. The system's own answer tells
-// a read that failed from the end of the input, and what was read before it failed is not taken for the whole. Where it is known what a
-// reader has left, that is what was read, and the whole of it unless the buffer is full.
-fn read_from<R: Read>(rt: &impl Eprint, source: &str, reader: &mut R, bytes: &mut [u8]) -> Input
-    ensures within { IsPrefixLen result.length bytes.new }
-    ensures taken { Consumes (R.remaining reader.old) (R.remaining reader.new) (take result.length bytes.new) }
-    ensures whole { IsTrue result.whole → result.length < length bytes.new → IsAtEnd (R.remaining reader.new) }
+// Reads what a reader gives, in however many pieces it comes, until the buffer is full or the input ends, and hands back how much that
+// was. The system's own answer tells a read that failed from the end of the input, and what was read before it failed is not taken for
+// the whole. Where it is known what a reader has left, that is what was read, and the whole of it unless the buffer is full.
+fn read_from<R: Read>(reader: &mut R, bytes: &mut [u8]) -> Result<usize, Failure>
+    ensures within { IfOk result (λ size. IsPrefixLen size bytes.new) }
+    ensures taken { IfOk result (λ size. Consumes (R.remaining reader.old) (R.remaining reader.new) (take size bytes.new)) }
+    ensures whole { IfOk result (λ size. size < length bytes.new → IsAtEnd (R.remaining reader.new)) }
+    ensures failed { OnErr result ((size : ℕ) × (size ≤ length bytes.new)
+        × Consumes (R.remaining reader.old) (R.remaining reader.new) (take size bytes.new)) }
 {
     let mut length = 0;
     while length < bytes.len() {
-        match reader.read(&mut bytes[length..]) {
-            Ok(0) => {
-                return Input {
-                    whole: true,
-                    length,
-                };
-            }
-            Ok(more) => length += more,
-            Err(error) => {
-                fail(rt, source, &error);
-                return Input {
-                    whole: false,
-                    length,
-                };
-            }
+        match reader.read(&mut bytes[length..])? {
+            0 => return Ok(length),
+            more => length += more,
         }
     }
-    Input {
-        whole: true,
-        length,
-    }
+    Ok(length)
 }
 
 // Reads standard input.
-pub fn read_standard_input(rt: &(impl io::Input + Eprint), bytes: &mut [u8]) -> Input
-    ensures { IsPrefixLen result.length bytes.new }
+pub fn read_standard_input(rt: &(impl io::Input + Eprint), bytes: &mut [u8]) -> Result<usize, Told>
+    ensures { IfOk result (λ size. IsPrefixLen size bytes.new) }
 {
-    read_from(rt, "standard input", &mut rt.reader(), bytes)
+    or_tell(rt, "standard input", read_from(&mut rt.reader(), bytes))
 }
 
 // Reads the file at a path.
-fn read_file(rt: &(impl Files + Eprint), path: &str, bytes: &mut [u8]) -> Input
-    ensures { IsPrefixLen result.length bytes.new }
+fn read_file(rt: &impl Files, path: &str, bytes: &mut [u8]) -> Result<usize, Failure>
+    ensures { IfOk result (λ size. IsPrefixLen size bytes.new) }
 {
-    match fs::open(rt, path) {
-        Ok(mut file) => read_from(rt, path, &mut file, bytes),
-        Err(error) => {
-            fail(rt, path, &error);
-            Input {
-                whole: false,
-                length: 0,
-            }
-        }
-    }
+    read_from(&mut fs::open(rt, path)?, bytes)
 }
 
-// Reads the file that an argument of the program names. One that is too long to be a path is told as such, and so is one that is no text,
-// since a path is text.
-pub fn read_argument(rt: &(impl Env + Files + Eprint), argument: usize, bytes: &mut [u8]) -> Input
-    ensures { IsPrefixLen result.length bytes.new }
+// The path that an argument of the program names. It has to be text, since a path is.
+fn path_in<'a>(rt: &impl Env, argument: usize, room: &'a mut [u8]) -> Result<&'a str, Failure> {
+    let size = rt.arg(argument, room)?;
+    Ok(str::from_utf8(&room[..size])?)
+}
+
+// Reads the file that an argument of the program names.
+pub fn read_argument(
+    rt: &(impl Env + Files + Eprint),
+    argument: usize,
+    bytes: &mut [u8],
+) -> Result<usize, Told>
+    ensures { IfOk result (λ size. IsPrefixLen size bytes.new) }
 {
-    let mut path = [0u8; PATH_ROOM];
-    match rt.arg(argument, &mut path) {
-        Ok(size) => match str::from_utf8(&path[..size]) {
-            Ok(text) => read_file(rt, text, bytes),
-            Err(_) => unread(
-                rt,
-                "the argument",
-                "Invalid or incomplete multibyte or wide character",
-            ),
-        },
-        Err(FillError::TooLong) => unread(rt, "the argument", "File name too long"),
-        Err(FillError::NotPresent) => unread(rt, "the argument", "Invalid argument"),
-    }
+    let mut room = [0u8; PATH_ROOM];
+    let path = or_tell(rt, "the argument", path_in(rt, argument, &mut room))?;
+    or_tell(rt, path, read_file(rt, path, bytes))
 }
 
 // How many arguments the program was started with, its own name among them.
 pub fn argument_count(rt: &impl Env) -> usize {
-    for argument in 0..usize::MAX {
-        if !has_argument(rt, argument) {
-            return argument;
-        }
-    }
-    usize::MAX
+    (0..usize::MAX)
+        .take_while(|&argument| has_argument(rt, argument))
+        .count()
 }
 
 // An argument that has no room here is there all the same.
@@ -157,32 +165,54 @@ pub fn read_register(
     rt: &(impl Env + Files + io::Input + Eprint),
     usage: &[u8],
     bytes: &mut [u8],
-) -> Input
-    ensures { IsPrefixLen result.length bytes.new }
+) -> Result<usize, Told>
+    ensures { IfOk result (λ size. IsPrefixLen size bytes.new) }
 {
-    let arguments = argument_count(rt);
-    if 2 < arguments {
-        // What is told is text; every usage is.
-        let _ = rt.eprint(str::from_utf8(usage).unwrap_or(""));
-        return Input {
-            whole: false,
-            length: 0,
-        };
-    }
-    if 1 < arguments {
-        return read_argument(rt, 1, bytes);
-    }
-    read_standard_input(rt, bytes)
-}
-
-// Writes text to standard output, and says whether it was taken. A caller that has more to write stops where it was not, so that the error
-// is told once.
-pub fn print(rt: &(impl Print + Eprint), text: &[u8]) -> bool {
-    match rt.write_all(text) {
-        Ok(()) => true,
-        Err(error) => {
-            fail(rt, "standard output", &error);
-            false
+    match argument_count(rt) {
+        0 | 1 => read_standard_input(rt, bytes),
+        2 => read_argument(rt, 1, bytes),
+        _ => {
+            // What is told is text; every usage is.
+            let _ = rt.eprint(str::from_utf8(usage).unwrap_or(""));
+            Err(Told)
         }
     }
+}
+
+// Writes text to standard output. A caller that has more to write stops where it was not taken, so that the error is told once.
+pub fn print(rt: &(impl Print + Eprint), text: &[u8]) -> Result<(), Told> {
+    or_tell(
+        rt,
+        "standard output",
+        rt.write_all(text).map_err(Failure::from),
+    )
+}
+
+// Prints what is written to the front of a blank page.
+pub fn print_page<P: AsSlice<u8>, F: FnOnce(&mut P) -> usize>(
+    rt: &(impl Print + Eprint),
+    page: &mut P,
+    write: F,
+) -> Result<(), Told>
+    requires callable { F.IsAlwaysCallable write }
+    requires fits { (size : ℕ) (written : P) → FnOnceReturnsAtMut F.FnOnce write page.old size written
+        → size ≤ length (P.items written) }
+{
+    let size = write(page);
+    print(rt, &page.as_slice()[..size])
+}
+
+// Answers the one register that a program takes: reads it, and prints what is written of it to the front of a blank page.
+pub fn answer_register<P: AsSlice<u8>, F: FnOnce(&[u8], &mut P) -> usize>(
+    rt: &(impl Env + Files + io::Input + Print + Eprint),
+    usage: &[u8],
+    page: &mut P,
+    write: F,
+) -> Result<(), Told>
+    requires callable { F.IsAlwaysCallable write }
+    requires fits { WritesWithin F.FnOnce P.items write page.old }
+{
+    let mut register = [0u8; REGISTER_ROOM];
+    let size = read_register(rt, usage, &mut register)?;
+    print_page(rt, page, |page| write(&register[..size], page))
 }

@@ -32,12 +32,8 @@ fn read_full(input: &mut impl Read, bytes: &mut [u8]) -> usize
     ensures { IsPrefixLen result bytes.new }
 {
     let mut length = 0;
-    while length < bytes.len() {
-        match input.read(&mut bytes[length..]) {
-            Ok(0) => return length,
-            Ok(more) => length += more,
-            Err(_) => return length,
-        }
+    while let Ok(more @ 1..) = input.read(&mut bytes[length..]) {
+        length += more;
     }
     length
 }

@@ -3,39 +3,29 @@ ghost use Rattle.std.specs.Prelude.{◌<◌};
 ghost use Rattle.std.specs.Counts.{IsPrefixLen};
 
 use crate::output::say;
-use crate::parts::{after, before};
-
-// The highest number, and what it is without its last digit.
-const HIGHEST: u64 = 18_446_744_073_709_551_615;
-
-const HIGHEST_TENS: u64 = 1_844_674_407_370_955_161;
+use crate::parts::split_once;
 
 // The number that a word spells; the highest there is for anything that is as high.
 pub fn number(rt: &impl Print, word: &[u8]) -> u64 {
-    if word.len() == 0 {
+    if word.is_empty() {
         say(rt, b": A NUMBER IS MISSING");
     }
-    let mut value = 0;
-    let mut i = 0;
-    while i < word.len() {
-        value = with_digit(rt, value, word[i]);
-        i += 1;
-    }
-    value
+    word.iter()
+        .fold(0, |value, &digit| with_digit(rt, value, digit))
 }
 
 fn with_digit(rt: &impl Print, value: u64, digit: u8) -> u64 {
-    if value < HIGHEST_TENS {
+    if value < u64::MAX / 10 {
         return value * 10 + digit_value(rt, digit);
     }
-    HIGHEST
+    u64::MAX
 }
 
 fn digit_value(rt: &impl Print, digit: u8) -> u64
     ensures { result < 10 }
 {
     match digit {
-        48..=57 => (digit - 48) as u64,
+        b'0'..=b'9' => u64::from(digit - b'0'),
         _ => {
             say(rt, b": THIS IS NO NUMBER");
             0
@@ -47,17 +37,17 @@ fn digit_value(rt: &impl Print, digit: u8) -> u64
 pub fn read_list(rt: &impl Print, list: &[u8], out: &mut [u64]) -> usize
     ensures { IsPrefixLen result out.new }
 {
-    let mut t = list;
-    let mut k = 0;
-    while 0 < t.len() {
-        if k == out.len() {
-            say(rt, b": THESE ARE TOO MANY NUMBERS");
-            return k;
-        }
-        out[k] = number(rt, before(rt, t, b' '));
-        k += 1;
-        let u = after(t, b' ');
-        t = u;
+    for (place, word) in out.iter_mut().zip(list.split_inclusive(is_blank)) {
+        *place = number(rt, split_once(word, b' ').0);
     }
-    k
+    let count = list.split_inclusive(is_blank).count();
+    if count <= out.len() {
+        return count;
+    }
+    say(rt, b": THESE ARE TOO MANY NUMBERS");
+    out.len()
+}
+
+fn is_blank(sign: &u8) -> bool {
+    *sign == b' '
 }

@@ -2,48 +2,36 @@
 ghost use Rattle.std.specs.Prelude.{◌-◌, ◌≤◌, length};
 
 use crate::output::say;
-use fields::parts::{place_of, upto};
 
-pub const BAR: u8 = 124;
+pub const BAR: u8 = b'|';
 
-// What stands before a place. Where there is no room for so much, that is told, and so the output differs.
+// The first bytes of a buffer. Where it has no room for so many, that is told, and so the output differs.
 pub fn front<'a>(rt: &impl Print, s: &'a [u8], size: usize) -> &'a [u8] {
-    if size <= s.len() {
-        return upto(s, size);
+    match s.get(..size) {
+        Some(front) => front,
+        None => {
+            say(rt, b": THIS IS TOO LONG");
+            s
+        }
     }
-    say(rt, b": THIS IS TOO LONG");
-    s
 }
 
-// What stands before the first byte `b`, or all where there is none.
-pub fn before<'a>(rt: &impl Print, s: &'a [u8], b: u8) -> &'a [u8] {
-    front(rt, s, place_of(s, b))
-}
-
-// What stands after the first byte `b`, or nothing where there is none.
-pub fn after(s: &[u8], b: u8) -> &[u8]
-    ensures { length result.now ≤ length s.now - 1 }
+// What stands before the first byte `b` and what stands after it: all, and nothing, where there is none.
+pub fn split_once(s: &[u8], b: u8) -> (&[u8], &[u8])
+    ensures { length result.1.now ≤ length s.now - 1 }
 {
-    let place = place_of(s, b);
-    if place < s.len() {
-        return &s[place + 1..];
+    match s.iter().position(|&x| x == b) {
+        Some(place) => (&s[..place], &s[place + 1..]),
+        None => (s, &[]),
     }
-    &s[..0]
 }
 
 // What stands after the first `k` bars.
 pub fn after_bars(s: &[u8], k: usize) -> &[u8] {
-    let mut t = s;
-    let mut left = k;
-    while 0 < left {
-        let u = after(t, BAR);
-        t = u;
-        left -= 1;
-    }
-    t
+    (0..k).fold(s, |rest, _| split_once(rest, BAR).1)
 }
 
 // The part after the first `k` bars, up to the next one.
-pub fn field<'a>(rt: &impl Print, s: &'a [u8], k: usize) -> &'a [u8] {
-    before(rt, after_bars(s, k), BAR)
+pub fn field(s: &[u8], k: usize) -> &[u8] {
+    s.split(|&b| b == BAR).nth(k).unwrap_or(&[])
 }

@@ -4,31 +4,32 @@ ghost use Rattle.std.proofs.Math.Option.{Option-elim};
 ghost use Rattle.apportionment.specs.Text.{bytes_of};
 ghost use Rattle.apportionment.specs.Quantities.{shown_text, mark_text};
 ghost use Rattle.departure.specs.Answer.{shown_in, mark_in};
-ghost use Rattle.writing.specs.inner.Writing.{Wrote};
+ghost use Rattle.writing.specs.inner.Page.{Appended};
 
 use crate::put_shown;
 use apportionment::Mark;
-use departure::Answer;
-use writing::put_bytes;
+use apportionment::refusals::Refusal;
+use departure::Shown;
+use writing::Page;
 
 // The shown departure, or `none` where there is none.
-pub fn put_departure(out: &mut [u8], at: usize, answer: Answer) -> usize
-    ensures { Wrote out.old at (Option-elim (shown_in answer) (bytes_of "none") shown_text) out.new result }
+pub fn put_departure(page: &mut Page, answer: Result<Option<Shown>, Refusal>)
+    ensures { Appended page.old (Option-elim (shown_in answer) (bytes_of "none") shown_text) page.new }
 {
     match answer {
-        Answer::Refused => put_bytes(out, at, b"none"),
-        Answer::NoSeats => put_bytes(out, at, b"none"),
-        Answer::Shown { shown, mark: _ } => put_shown(out, at, shown),
+        Ok(Some(exact)) => put_shown(page, exact.shown),
+        Ok(None) => page.put_bytes(b"none"),
+        Err(_) => page.put_bytes(b"none"),
     }
 }
 
 // The word of the mark, or `none` where there is none.
-pub fn put_mark(out: &mut [u8], at: usize, answer: Answer) -> usize
-    ensures { Wrote out.old at (Option-elim (mark_in answer) (bytes_of "none") mark_text) out.new result }
+pub fn put_mark(page: &mut Page, answer: Result<Option<Shown>, Refusal>)
+    ensures { Appended page.old (Option-elim (mark_in answer) (bytes_of "none") mark_text) page.new }
 {
     match answer {
-        Answer::Refused => put_bytes(out, at, b"none"),
-        Answer::NoSeats => crate::put_mark(out, at, Mark::None),
-        Answer::Shown { shown: _, mark } => crate::put_mark(out, at, mark),
+        Ok(Some(exact)) => crate::put_mark(page, exact.mark),
+        Ok(None) => crate::put_mark(page, Mark::None),
+        Err(_) => page.put_bytes(b"none"),
     }
 }

@@ -1,102 +1,92 @@
-// The words, numbers and lines of the desk's texts, written into a lent buffer as the crate `writing` writes: from place `at` on, handing
-// back the place after what was written.
+// The words, numbers and lines of the desk's texts, written on a page of crate `writing`.
 #![tactic(auto)]
 
 pub mod answers;
 
 ghost use Rattle.apportionment.specs.Methods.{method_text};
 ghost use Rattle.apportionment.specs.Quantities.{shown_size_text, shown_text, mark_text};
-ghost use Rattle.writing.specs.inner.Writing.{Wrote};
+ghost use Rattle.writing.specs.inner.Page.{Appended};
 ghost use Rattle.text.specs.Shared.{numbers_text, head_line, total_line, refusal_line};
 
-use apportionment::{Mark, Method, methods};
-use writing::{put_byte, put_bytes, put_decimal, put_digit};
+use apportionment::{Mark, Method};
+use writing::Page;
 
 // A shown size: per cent, with a point and three digits after it.
-pub fn put_shown_size(out: &mut [u8], at: usize, size: u64) -> usize
-    ensures { Wrote out.old at (shown_size_text size) out.new result }
+pub fn put_shown_size(page: &mut Page, size: u64)
+    ensures { Appended page.old (shown_size_text size) page.new }
 {
-    let whole = put_decimal(out, at, size / 1000);
-    let point = put_byte(out, whole, b'.');
-    let first = put_digit(out, point, size / 100 % 10);
-    let second = put_digit(out, first, size / 10 % 10);
-    put_digit(out, second, size % 10)
+    page.put_decimal(size / 1000);
+    page.put_byte(b'.');
+    page.put_digit(size / 100 % 10);
+    page.put_digit(size / 10 % 10);
+    page.put_digit(size % 10);
 }
 
 // A shown departure: a minus sign below zero, no plus sign.
-pub fn put_shown(out: &mut [u8], at: usize, shown: i64) -> usize
-    ensures { Wrote out.old at (shown_text shown) out.new result }
+pub fn put_shown(page: &mut Page, shown: i64)
+    ensures { Appended page.old (shown_text shown) page.new }
 {
-    let size = wide::magnitude(shown);
     if shown < 0 {
-        let sign = put_byte(out, at, b'-');
-        return put_shown_size(out, sign, size);
+        page.put_byte(b'-');
     }
-    put_shown_size(out, at, size)
+    put_shown_size(page, shown.unsigned_abs());
 }
 
 // The word of a mark.
-pub fn put_mark(out: &mut [u8], at: usize, mark: Mark) -> usize
-    ensures { Wrote out.old at (mark_text mark) out.new result }
+#[tactic(auto, unfolding(apportionment::specs::Quantities::mark_text))]
+pub fn put_mark(page: &mut Page, mark: Mark)
+    ensures { Appended page.old (mark_text mark) page.new }
 {
     match mark {
-        Mark::In => put_bytes(out, at, b"in"),
-        Mark::High => put_bytes(out, at, b"high"),
-        Mark::Over => put_bytes(out, at, b"over"),
-        Mark::None => put_bytes(out, at, b"none"),
+        Mark::In => page.put_bytes(b"in"),
+        Mark::High => page.put_bytes(b"high"),
+        Mark::Over => page.put_bytes(b"over"),
+        Mark::None => page.put_bytes(b"none"),
     }
 }
 
 // The word of a method, as registers and listings spell it.
-pub fn put_method(out: &mut [u8], at: usize, method: Method) -> usize
-    ensures { Wrote out.old at (method_text method) out.new result }
+pub fn put_method(page: &mut Page, method: Method)
+    ensures { Appended page.old (method_text method) page.new }
 {
-    let words = methods::WORDS;
-    put_bytes(out, at, methods::word(&words, method))
+    page.put_bytes(method.word());
 }
 
 // Two numbers, each after a comma.
-pub fn put_numbers(out: &mut [u8], at: usize, x: u64, y: u64) -> usize
-    ensures { Wrote out.old at (numbers_text x y) out.new result }
+pub fn put_numbers(page: &mut Page, x: u64, y: u64)
+    ensures { Appended page.old (numbers_text x y) page.new }
 {
-    let comma = put_byte(out, at, b',');
-    let number = put_decimal(out, comma, x);
-    let next = put_byte(out, number, b',');
-    put_decimal(out, next, y)
+    page.put_byte(b',');
+    page.put_decimal(x);
+    page.put_byte(b',');
+    page.put_decimal(y);
 }
 
 // Line 1 of a text: its word, the method, the house and the number of states.
-pub fn put_head(
-    out: &mut [u8],
-    at: usize,
-    word: &[u8],
-    method: Method,
-    house: u64,
-    states: u64,
-) -> usize
-    ensures { Wrote out.old at (head_line word.now method house states) out.new result }
+pub fn put_head(page: &mut Page, word: &[u8], method: Method, house: u64, states: u64)
+    ensures { Appended page.old (head_line word.now method house states) page.new }
 {
-    let first = put_bytes(out, at, word);
-    let comma = put_byte(out, first, b',');
-    let named = put_method(out, comma, method);
-    let numbers = put_numbers(out, named, house, states);
-    put_byte(out, numbers, b'\n')
+    page.put_bytes(word);
+    page.put_byte(b',');
+    put_method(page, method);
+    put_numbers(page, house, states);
+    page.put_byte(b'\n');
 }
 
 // The line of totals: P, and the seats allotted.
-pub fn put_total(out: &mut [u8], at: usize, total: u64, allotted: u64) -> usize
-    ensures { Wrote out.old at (total_line total allotted) out.new result }
+pub fn put_total(page: &mut Page, total: u64, allotted: u64)
+    ensures { Appended page.old (total_line total allotted) page.new }
 {
-    let word = put_bytes(out, at, b"total");
-    let numbers = put_numbers(out, word, total, allotted);
-    put_byte(out, numbers, b'\n')
+    page.put_bytes(b"total");
+    put_numbers(page, total, allotted);
+    page.put_byte(b'\n');
 }
 
 // The one line of a refusal.
-pub fn put_refusal(out: &mut [u8], at: usize, number: u64, line: u64) -> usize
-    ensures { Wrote out.old at (refusal_line number line) out.new result }
+pub fn put_refusal(page: &mut Page, number: u64, line: u64)
+    ensures { Appended page.old (refusal_line number line) page.new }
 {
-    let word = put_bytes(out, at, b"refused");
-    let numbers = put_numbers(out, word, number, line);
-    put_byte(out, numbers, b'\n')
+    page.put_bytes(b"refused");
+    put_numbers(page, number, line);
+    page.put_byte(b'\n');
 }

@@ -4,7 +4,7 @@
 // that is shown is written by crate `showing`; this file only moves bytes and placings.
 #![tactic(auto)]
 
-ghost use Rattle.std.specs.Prelude.{◌≡◌, true};
+ghost use Rattle.std.specs.Prelude.{◌≡◌, IfOk};
 ghost use Rattle.showing.specs.inner.Showable.{Showable, ShowableStep};
 ghost use Rattle.work.specs.inner.Way.{Begun, on_the_way, way_of};
 
@@ -14,107 +14,72 @@ use placing::Placing;
 use register::rows;
 use showing::PAGE_ROOM;
 use std::rt::{Env, Files};
+use streams::{Told, print_page};
+use writing::Page;
 
 // Room for the line of a refusal.
 const REFUSAL_ROOM: usize = 64;
 
-// How far the steps were printed: whether all of them were written, and the placing that stands.
-#[derive(Drop)]
-struct Walked {
-    written: bool,
-    placing: Placing,
-}
-
-// Each of these prints a block and says whether it was taken; after one that was not, nothing more is printed.
-fn print_refusal(rt: &(impl Print + Eprint), number: u64, line: u64) -> bool {
-    let mut page = [0u8; REFUSAL_ROOM];
-    let size = text::put_refusal(&mut page[..], 0, number, line);
-    streams::print(rt, &page[..size])
-}
-
-fn print_start(rt: &(impl Print + Eprint), rows: &[u8], placing: Placing, sum: u64) -> bool
-    requires { Showable rows.now placing sum }
-{
-    let mut page = [0u8; PAGE_ROOM];
-    let size = showing::put_start(&mut page[..], rows, placing, sum);
-    streams::print(rt, &page[..size])
-}
-
-fn print_move(
-    rt: &(impl Print + Eprint),
-    rows: &[u8],
-    before: Placing,
-    after: Placing,
-    sum: u64,
-) -> bool
-    requires { ShowableStep rows.now before after sum }
-{
-    let mut page = [0u8; PAGE_ROOM];
-    let size = showing::put_move(&mut page[..], rows, before, after, sum);
-    streams::print(rt, &page[..size])
-}
-
-fn print_end(rt: &(impl Print + Eprint), rows: &[u8], placing: Placing, sum: u64) -> bool
-    requires { Showable rows.now placing sum }
-{
-    let mut page = [0u8; PAGE_ROOM];
-    let size = showing::put_end(&mut page[..], rows, placing, sum);
-    streams::print(rt, &page[..size])
+fn print_refusal(rt: &(impl Print + Eprint), number: u64, line: u64) -> Result<(), Told> {
+    print_page(rt, &mut [0u8; REFUSAL_ROOM], |bytes| {
+        let mut page = Page::new(bytes);
+        text::put_refusal(&mut page, number, line);
+        page.place()
+    })
 }
 
 // Moves by one seat until none is moved, as at the house, and prints each step. From the start the house is fewer steps away than there are
 // states, so that the turns never run out.
-fn print_steps(rt: &(impl Print + Eprint), rows: &[u8], start: Placing, sum: u64) -> Walked
+fn print_steps(
+    rt: &(impl Print + Eprint),
+    rows: &[u8],
+    start: Placing,
+    sum: u64,
+) -> Result<Placing, Told>
     requires { Begun rows.now start sum }
-    ensures { result.written ≡ true → result.placing ≡ on_the_way start (way_of start) }
+    ensures { IfOk result (λ placing. placing ≡ on_the_way start (way_of start)) }
 {
     let mut placing = start;
-    let mut made = 0;
-    while made < STATE_LIMIT {
+    for _ in 0..STATE_LIMIT {
         let on = placing.moved_on(1);
         let answer = on.answer;
         if answer.moved == 0 {
-            return Walked {
-                written: true,
-                placing,
-            };
+            return Ok(placing);
         }
         let next = on.placing;
-        if print_move(rt, rows, placing, next, sum) {
-            placing = next;
-            made += 1;
-        } else {
-            return Walked {
-                written: false,
-                placing,
-            };
-        }
+        print_page(
+            rt,
+            &mut [0u8; PAGE_ROOM],
+            |page| showing::put_move(page, rows, placing, next, sum),
+        )?;
+        placing = next;
     }
-    Walked {
-        written: true,
-        placing,
-    }
+    Ok(placing)
 }
 
-// Shows the work from the start on.
-fn show_way(rt: &(impl Print + Eprint), rows: &[u8], start: Placing, sum: u64) -> bool
+// Shows the work from the start on. After a block that was not taken, nothing more is printed.
+fn show_way(rt: &(impl Print + Eprint), rows: &[u8], start: Placing, sum: u64) -> Result<(), Told>
     requires { Begun rows.now start sum }
 {
-    if print_start(rt, rows, start, sum) {
-        let walked = print_steps(rt, rows, start, sum);
-        if walked.written {
-            return print_end(rt, rows, walked.placing, sum);
-        }
-    }
-    false
+    print_page(
+        rt,
+        &mut [0u8; PAGE_ROOM],
+        |page| showing::put_start(page, rows, start, sum),
+    )?;
+    let end = print_steps(rt, rows, start, sum)?;
+    print_page(
+        rt,
+        &mut [0u8; PAGE_ROOM],
+        |page| showing::put_end(page, rows, end, sum),
+    )
 }
 
 // Shows the work of a register.
-fn show(rt: &(impl Print + Eprint), register: &[u8]) -> bool {
-    let reading = register::read(register);
-    if reading.refusal != ACCEPTED {
-        return print_refusal(rt, reading.refusal, reading.line);
-    }
+fn show(rt: &(impl Print + Eprint), register: &[u8]) -> Result<(), Told> {
+    let reading = match register::read(register) {
+        Ok(reading) => reading,
+        Err(refused) => return print_refusal(rt, refused.refusal.number(), refused.line),
+    };
     let n = reading.states;
     let populations = reading.populations;
     let opened = Placing::open(&populations[..n], reading.house);
@@ -124,34 +89,34 @@ fn show(rt: &(impl Print + Eprint), register: &[u8]) -> bool {
     show_way(rt, rows::of(register), opened.placing, reading.total)
 }
 
-fn show_standard_input(rt: &(impl Input + Print + Eprint)) {
+fn show_standard_input(rt: &(impl Input + Print + Eprint)) -> Result<(), Told> {
     let mut register = [0u8; streams::REGISTER_ROOM];
-    let input = streams::read_standard_input(rt, &mut register);
-    if input.whole {
-        show(rt, &register[..input.length]);
-    }
+    let size = streams::read_standard_input(rt, &mut register)?;
+    show(rt, &register[..size])
 }
 
 // Shows the work of the register in the file that an argument names. A file that could not be read was told, and printing goes on with the
 // next one.
-fn show_file(rt: &(impl Env + Files + Print + Eprint), argument: usize) -> bool {
+fn show_file(rt: &(impl Env + Files + Print + Eprint), argument: usize) -> Result<(), Told> {
     let mut register = [0u8; streams::REGISTER_ROOM];
-    let input = streams::read_argument(rt, argument, &mut register);
-    if input.whole {
-        return show(rt, &register[..input.length]);
+    match streams::read_argument(rt, argument, &mut register) {
+        Ok(size) => show(rt, &register[..size]),
+        Err(Told) => Ok(()),
     }
-    true
+}
+
+fn run(rt: &(impl Env + Files + Input + Print + Eprint)) -> Result<(), Told> {
+    let count = streams::argument_count(rt);
+    if count < 2 {
+        return show_standard_input(rt);
+    }
+    for argument in 1..count {
+        show_file(rt, argument)?;
+    }
+    Ok(())
 }
 
 fn main(rt: HostRuntime) {
-    let count = streams::argument_count(&rt);
-    if count < 2 {
-        show_standard_input(&rt);
-        return;
-    }
-    for k in 1..count {
-        if !show_file(&rt, k) {
-            return;
-        }
-    }
+    // What failed was told, and the program ends as ever.
+    let _ = run(&rt);
 }

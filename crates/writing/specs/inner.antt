@@ -1,2 +1,3 @@
--- What it means that text was written into a lent buffer, and the law that joins what two calls wrote.
+-- What it means that text was written into a lent buffer, the law that joins what two calls wrote, and both for a page.
 pub mod Writing
+pub mod Page

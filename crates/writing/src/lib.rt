@@ -1,68 +1,83 @@
-// Writing bytes and numbers into a lent buffer. Each function writes from place `at` on and hands back the place after what it wrote;
-// once something did not fit, that is one past the buffer's length, and every later call leaves it there and the buffer as it is. So a
-// caller writes all that it has and asks once, at the end, whether it fitted. No function reads the place as an index before it is known
-// to be one.
+// Writing bytes and numbers on a page: a lent buffer, and the place up to which it is filled. Each method writes from the place on and
+// moves it past what it wrote; once something did not fit, the place is one past the buffer's length, and every later call leaves it
+// there and the buffer as it is. So a caller writes all that it has and asks once, at the end, whether it fitted. No method reads the
+// place as an index before it is known to be one.
 #![tactic(auto)]
 
 ghost use Rattle.std.specs.Prelude.{◌≡◌, ◌∷◌, [], ◌+◌, ◌<◌, ◌≤◌, length};
 ghost use Rattle.apportionment.specs.Text.{decimal, digit};
-ghost use Rattle.writing.specs.inner.Writing.{Wrote, laid};
 
-// One byte.
-pub fn put_byte(out: &mut [u8], at: usize, byte: u8) -> usize
-    ensures { Wrote out.old at (byte ∷ []) out.new result }
-{
-    if at < out.len() {
-        out[at] = byte;
-        return at + 1;
-    }
-    out.len() + 1
+// A lent buffer that is filled from a place on.
+#[derive(Drop)]
+pub struct Page<'a> {
+    buffer: &'a mut [u8],
+    place: usize,
+    ghost within: { place ≤ length buffer.now + 1 },
 }
 
-// Lays a part over the buffer from a place on, where it fits: one loop over bytes, which the compiler makes a copy of memory.
-fn lay(out: &mut [u8], at: usize, part: &[u8])
-    requires { at + length part.now ≤ length out.old }
-    ensures { out.new ≡ laid out.old at part.now }
-{
-    let mut i = 0;
-    while i < part.len() {
-        out[at + i] = part[i];
-        i += 1;
-    }
-}
+impl<'a> Page<'a> {
+    ghost use Rattle.writing.specs.inner.Page.{Appended, Begun};
 
-// The bytes of a lent part; of one that does not fit, those for which there is room.
-pub fn put_bytes(out: &mut [u8], at: usize, part: &[u8]) -> usize
-    ensures { Wrote out.old at part.now out.new result }
-{
-    let past = out.len() + 1;
-    if at > out.len() {
-        return past;
+    // A page on which nothing is written yet.
+    pub fn new(buffer: &'a mut [u8]) -> Page<'a>
+        ensures same { result.buffer.ghost_name ≡ buffer.entry.ghost_name }
+        ensures begun { Begun buffer.old result }
+    {
+        Page { buffer, place: 0 }
     }
-    let room = out.len() - at;
-    if part.len() <= room {
-        lay(out, at, part);
-        return at + part.len();
-    }
-    lay(out, at, &part[..room]);
-    past
-}
 
-// One digit.
-pub fn put_digit(out: &mut [u8], at: usize, d: u64) -> usize
-    requires { d < 10 }
-    ensures { Wrote out.old at (digit d) out.new result }
-{
-    put_byte(out, at, 48 + d as u8)
-}
-
-// A number in base ten, without leading zeros.
-pub fn put_decimal(out: &mut [u8], at: usize, n: u64) -> usize
-    ensures { Wrote out.old at (decimal n) out.new result }
-{
-    if n < 10 {
-        return put_digit(out, at, n);
+    // The place after what was written: the length of the whole text, unless something did not fit.
+    pub fn place(&self) -> usize
+        ensures { result ≡ self.now.place }
+    {
+        self.place
     }
-    let tens = put_decimal(out, at, n / 10);
-    put_digit(out, tens, n % 10)
+
+    // One byte.
+    pub fn put_byte(&mut self, byte: u8)
+        ensures { Appended self.old (byte ∷ []) self.new }
+    {
+        if self.place < self.buffer.len() {
+            self.buffer[self.place] = byte;
+            self.place += 1;
+        } else {
+            self.place = self.buffer.len() + 1;
+        }
+    }
+
+    // The bytes of a lent part; of one that does not fit, those for which there is room.
+    pub fn put_bytes(&mut self, part: &[u8])
+        ensures { Appended self.old part.now self.new }
+    {
+        if self.place > self.buffer.len() {
+            return;
+        }
+        let room = self.buffer.len() - self.place;
+        if part.len() <= room {
+            let next = self.place + part.len();
+            self.buffer[self.place..next].copy_from_slice(part);
+            self.place = next;
+        } else {
+            self.buffer[self.place..].copy_from_slice(&part[..room]);
+            self.place += room + 1;
+        }
+    }
+
+    // One digit.
+    pub fn put_digit(&mut self, d: u64)
+        requires { d < 10 }
+        ensures { Appended self.old (digit d) self.new }
+    {
+        self.put_byte(b'0' + d as u8);
+    }
+
+    // A number in base ten, without leading zeros.
+    pub fn put_decimal(&mut self, n: u64)
+        ensures { Appended self.old (decimal n) self.new }
+    {
+        if n >= 10 {
+            self.put_decimal(n / 10);
+        }
+        self.put_digit(n % 10);
+    }
 }

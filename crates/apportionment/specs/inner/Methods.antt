@@ -1,14 +1,11 @@
 -- Laws of what Methods.antt defines, which proofs cite: a method's number leads back to it, so what a test finds at each entry of the
--- list of methods holds of every method; and the table in which the code keeps the words says each method's word.
+-- list of methods holds of every method.
 -- Assumes nothing.
-use Rattle.std.specs.Prelude.{◌≡◌, refl, Bool, true, false, cond, List, [], ◌∷◌, ℕ, zero, suc, ◌+◌, ◌-◌, ◌≤◌, ◌<◌, leb, length, get_or}
-use Rattle.std.specs.Prelude.{take, drop}
+use Rattle.std.specs.Prelude.{◌≡◌, refl, Bool, true, false, cond, List, [], ◌∷◌, ℕ, zero, suc, ◌+◌, ◌≤◌, ◌<◌, length, get_or}
+use Rattle.std.specs.Prelude.{drop}
 use Rattle.std.proofs.lemmas.Bool.{false≢true}
-use Rattle.std.proofs.Common.{add-one, arith, leb-true, drop-cons}
-use Rattle.apportionment.specs.Lists.{same_list}
-use Rattle.apportionment.specs.Text.{bytes_of}
-use Rattle.apportionment.specs.Methods.{methods, method_text, method_number, method_at, last_method}
-use Rattle.apportionment.specs.inner.Lists.{same_list_equal}
+use Rattle.std.proofs.Common.{add-one, arith, drop-cons}
+use Rattle.apportionment.specs.Methods.{methods, method_number, method_at, last_method}
 use Rattle.apportionment.specs.inner.Tests.{either_way}
 use Rattle.apportionment.specs.declared.Method.{Method}
 use Rattle.apportionment.specs.declared.Method.TheVariants.{Leximin, Adams, Dean, Hill, Webster, Jefferson, Remainders, Quota}
@@ -56,32 +53,3 @@ pass_at test (m ∷ ms) (suc n) last all end =
 -- A test that each method of the list passes, the last one once more, every method passes.
 pub every_method : (test : Method → Bool) → all_pass test methods ≡ true → test Quota ≡ true → (m : Method) → test m ≡ true
 every_method test all end m = rw (number_names_method m) at (pass_at test methods (method_number m) Quota all end)
-
--- ---- the table of words
-
--- The words of the methods, one after the other, and where each starts; the last entry is the end.
-abbrev pub word_table : List ℕ
-word_table = bytes_of "leximinadamsdeanhillwebsterjeffersonremaindersquota"
-
-abbrev pub word_starts : List ℕ
-word_starts = 0 ∷ 7 ∷ 12 ∷ 16 ∷ 20 ∷ 27 ∷ 36 ∷ 46 ∷ 51 ∷ []
-
--- Where the word of a method starts, and where it ends.
-abbrev pub word_start : Method → ℕ
-word_start m = get_or word_starts (method_number m) 0
-
-abbrev pub word_end : Method → ℕ
-word_end m = get_or word_starts (method_number m + 1) 0
-
--- Each word ends after it starts, within the table, and is its method's.
-pub word_has_order : (m : Method) → word_start m ≤ word_end m
-word_has_order m = leb-true (word_start m) (word_end m) (every_method (λ m. leb (word_start m) (word_end m)) refl refl m)
-
-pub word_within : (m : Method) → word_end m ≤ length word_table
-word_within m = leb-true (word_end m) (length word_table) (every_method (λ m. leb (word_end m) (length word_table)) refl refl m)
-
-pub word_in_table : (m : Method) → take (word_end m - word_start m) (drop (word_start m) word_table) ≡ method_text m
-unfolding same_list method_text
-word_in_table m =
-    same_list_equal (take (word_end m - word_start m) (drop (word_start m) word_table)) (method_text m)
-    (every_method (λ m. same_list (take (word_end m - word_start m) (drop (word_start m) word_table)) (method_text m)) refl refl m)

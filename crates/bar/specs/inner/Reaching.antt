@@ -1,9 +1,11 @@
 -- Counts of the states that reach a precedence, and the bar: a precedence with no more states above it than seats are left, and at least
 -- as many at it or above. There always is one, which `bar_of` finds.
 -- Assumes nothing.
-use Rattle.std.specs.Prelude.{◌≡◌, Bool, ◌⊎◌, List, ℕ, zero, suc, ◌+◌, ◌-◌, ◌≤◌, ◌<◌, leb, length, get_or}
+use Rattle.std.specs.Prelude.{◌≡◌, refl, Bool, true, false, cond, count_by, ◌⊎◌, List, [], ◌∷◌, ℕ, zero, suc, ◌+◌, ◌-◌, ◌≤◌, ◌<◌, leb}
+use Rattle.std.specs.Prelude.{length, get_or}
 use Rattle.std.proofs.Common.{◌∙◌, inl, inr, arith, add-one, zero-add, suc-add, leb-true, leb-false, le-leb}
 use Rattle.std.proofs.lemmas.Bool.{lt-leb}
+use Rattle.std.proofs.lemmas.List.Recursion.{is_count_by}
 use Rattle.apportionment.specs.Lists.{sum, count_below}
 use Rattle.apportionment.specs.inner.Lists.{entry_at_most_sum, count_none, count_one_more}
 use Rattle.apportionment.specs.inner.Tests.{either_way}
@@ -28,6 +30,27 @@ count_passed_by xs least j h = count_one_more (reaches xs least) j ∙ simp (lt-
 -- How many of the first k states reach a precedence.
 abbrev pub reaching : (xs : List ℕ) (least k : ℕ) → ℕ
 reaching xs least k = count_below (reaches xs least) k
+
+-- All places counted are the precedences that pass, taken from the front.
+count_from_front : (test : ℕ → Bool) (n : ℕ) → count_below test (suc n) ≡ cond (test 0) 1 0 + count_below (λ k. test (suc k)) n
+unfolding count_below
+count_from_front test zero = refl
+count_from_front test (suc n) = omega (arith, count_from_front test n)
+
+cond_plus : (t : Bool) (n : ℕ) → cond t 1 0 + n ≡ cond t (1 + n) n
+cond_plus true n = refl
+cond_plus false n = omega arith
+
+-- So they are as many as the list has of `least` or more.
+pub all_reaching : (xs : List ℕ) (least : ℕ) → reaching xs least (length xs) ≡ count_by (λ x. leb least x) xs
+unfolding reaches
+all_reaching xs least = is_count_by (λ ys. reaching ys least (length ys)) (λ x. leb least x) (count_none (reaches [] least)) step xs
+  where
+    step : (x : ℕ) (ys : List ℕ) → reaching (x ∷ ys) least (length (x ∷ ys))
+        ≡ cond (leb least x) (1 + reaching ys least (length ys)) (reaching ys least (length ys))
+    step x ys =
+        count_from_front (reaches (x ∷ ys) least) (length ys)
+        ∙ cond_plus (leb least x) (reaching ys least (length ys))
 
 -- One place more is counted, or not.
 abbrev pub Counted : (xs : List ℕ) (least k : ℕ) → Type 0

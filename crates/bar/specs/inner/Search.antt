@@ -3,9 +3,20 @@
 -- Assumes nothing.
 use Rattle.std.specs.Prelude.{◌≡◌, List, ℕ, ◌+◌, ◌-◌, ◌*◌, ◌/◌, ◌≤◌, ◌<◌, min, max, leb, length, get_or}
 use Rattle.std.proofs.Common.{sym, ◌∙◌, arith, mul-le-mul, div-mul-le_self, le_trans, leb-true, leb-false}
+use Rattle.std.specs.Ordering.{ord_min, ord_max, nat_cmp}
+use Rattle.std.proofs.lemmas.Bool.Decides.{nat_tests}
 use Rattle.apportionment.specs.inner.Tests.{either_way}
 use Rattle.bar.specs.inner.Reaching.{count_reached, count_passed_by, reaching, falls, Bar, just_as_many}
 use Rattle.bar.specs.declared.Range.{Range}
+
+-- ---- the lesser and the greater of two
+
+-- What the library's `min` and `max` answer.
+pub min_is : (a b : ℕ) → ord_min nat_cmp a b ≡ min a b
+min_is a b = grind (arith, nat_tests)
+
+pub max_is : (a b : ℕ) → ord_max nat_cmp a b ≡ max a b
+max_is a b = grind (arith, nat_tests)
 
 -- ---- an end drawn in
 

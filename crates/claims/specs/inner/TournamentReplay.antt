@@ -3,6 +3,8 @@
 -- Assumes nothing.
 use Rattle.std.specs.Prelude.{◌≡◌, refl, ◌≢◌, ◌⊎◌, Bool, List, ℕ, ◌+◌, ◌*◌, ◌-◌, ◌/◌, ◌<◌, ◌≤◌, length, get_or, set}
 use Rattle.std.proofs.Common.{sym, ap, ◌∙◌, subst, inl, inr, ⊎_elim, arith, length-set, get_or-set_same, get_or-set_other}
+use Rattle.std.specs.Int.Bits.{bit_xor, xor_add_and}
+use Rattle.std.proofs.lemmas.Nat.{and_mask}
 use Rattle.std.proofs.Math.Decide.{ℕ_discrete}
 use Rattle.claims.specs.inner.Tournament.{better, Except, Winners, better_is_one, better_either_way}
 use Rattle.claims.specs.inner.Tournament.{half_of, from_the_leaves, halved, halved_too, right_lt}
@@ -149,6 +151,10 @@ module _ {before : ℕ → ℕ → Bool} {n : ℕ} {t : List ℕ} where
 -- The place beside k: the two meet at the place half as far, and are twice that and the next.
 abbrev pub beside : ℕ → ℕ
 beside k = 4 * (k / 2) + 1 - k
+
+-- It differs from k in the last bit alone.
+pub beside_flips : (k : ℕ) → bit_xor k 1 ≡ beside k
+beside_flips k = omega (arith, xor_add_and k 1, and_mask k 1)
 
 beside_cases : (k : ℕ)
     → ((k ≡ 2 * (k / 2)) × (beside k ≡ 2 * (k / 2) + 1)) ⊎ ((k ≡ 2 * (k / 2) + 1) × (beside k ≡ 2 * (k / 2)))

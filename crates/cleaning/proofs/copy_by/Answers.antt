@@ -1,10 +1,6 @@
 -- `cleaning::copy_by` meets its contract: the whole clean form stands at the front of the page, from which it is handed over.
-use mathlib.Core.Path.{refl, sym}
-use mathlib.Core.List.{List}
-use Prim.Native.Nat.{ℕ}
-use native.Mathlib.Omega.{arith}
-use lib.Seq.{length-take-le}
-use Rattle.register.specs.Register.{name_in_row}
+use Rattle.std.proofs.Common.{◌≡◌, refl, arith, rules, Err, Ok}
+use Rattle.register.specs.Register.{reading_outcome, name_in_row}
 use Rattle.writing.specs.inner.Writing.{AtFront, wrote_front}
 use Rattle.handover.specs.inner.Handover.{handed_over}
 use Rattle.cleaning.specs.Clean.{clean_in}
@@ -12,24 +8,20 @@ use Rattle.cleaning.specs.inner.Room.{clean_has_room}
 use Rattle.cleaning.proofs.copy_by.Goals as goal
 use Rattle.cleaning.proofs.copy_by.Goals.{After-put_clean-size}
 
-abbrev clean : After-put_clean-size → List ℕ
-clean c =
-    let args = c.args in
-    clean_in args.reading (name_in_row args.rows.now)
-
 -- The clean form stands at the front of the page.
-front_of_page : (c : After-put_clean-size) → AtFront (clean c) c.put_clean-size.new.out c.put_clean-size.result
-front_of_page c =
-    let pre = c.requires.cleanable in
-    wrote_front c.put_clean-size.ensures (omega (arith, clean_has_room pre.0, pre.1))
+front_of_page : (g : _) (c : After-put_clean-size g)
+    → AtFront (clean_in (reading_outcome (Ok c.args.reading)) (name_in_row c.args.rows.now)) c.put_clean-size.new.out
+    c.put_clean-size.result
+front_of_page g c = wrote_front c.put_clean-size.ensures (omega (arith, clean_has_room c.requires.cleanable.0))
 
-pub slice_bounds-hand_over-end : goal.slice_bounds-hand_over-end
-slice_bounds-hand_over-end c = (front_of_page (goal.at.slice_bounds-hand_over-end c).After-put_clean-size).within
+pub shared_whole_as_front-hand_over : goal.shared_whole_as_front-hand_over
+shared_whole_as_front-hand_over g c =
+    (omega (arith, (front_of_page g (goal.at.shared_whole_as_front-hand_over g c).After-put_clean-size).within), omega arith)
 
-pub slice_bounds-hand_over-end-2 : goal.slice_bounds-hand_over-end-2
-slice_bounds-hand_over-end-2 c =
-    sym (length-take-le _ _ (front_of_page (goal.at.slice_bounds-hand_over-end-2 c).After-put_clean-size).within)
+pub returns-in_err-hand_over : goal.returns-in_err-hand_over
+returns-in_err-hand_over g c =
+    let given : c.from_residual.result ≡ Err (record { refusal = c.in_err-hand_over.field-0.0; line = 0 }) = search rules in
+    rw given (handed_over refl (front_of_page g (goal.at.returns-in_err-hand_over g c).After-put_clean-size) c.in_err-hand_over.ensures)
 
 pub returns : goal.returns
-returns c =
-    handed_over refl (front_of_page (goal.at.returns c).After-put_clean-size) c.hand_over.ensures
+returns g c = handed_over refl (front_of_page g (goal.at.returns g c).After-put_clean-size) c.in_ok-hand_over.ensures

@@ -1,19 +1,22 @@
 -- `cleaning::print` meets its contract: the page has room for every clean form and for a refusal's line.
-use native.Mathlib.Omega.{arith}
+use Rattle.std.proofs.Common.{arith, rules, refl}
+use Rattle.std.proofs.lemmas.Bool.{eqb-false}
+use Rattle.apportionment.specs.inner.Checks.{refusal_has_number}
+use Rattle.writing.specs.inner.Page.{written_whole}
 use Rattle.handover.specs.inner.Handover.{text_printed, refusal_printed}
 use Rattle.cleaning.specs.inner.Cleaned.{clean_in_page}
-use borrow.Author.Rules.{rules}
 use Rattle.cleaning.proofs.print.Goals as goal
 
-pub returns-then-written-eq-ACCEPTED : goal.returns-then-written-eq-ACCEPTED
-returns-then-written-eq-ACCEPTED c =
-    let printed = text_printed c.write_clean-written.ensures (clean_in_page _ (search rules)) c.if-written-eq-ACCEPTED.true in
+pub returns-in-Ok : goal.returns-in-Ok
+returns-in-Ok c =
+    let printed = text_printed c.in-Ok.ensures (clean_in_page _ (search rules)) refl in
     record { wrote = printed.0; fits = printed.1 }
 
-pub returns : goal.returns
-returns c =
-    let printed =
-    refusal_printed
-    c.write_clean-written.ensures (clean_in_page _ (search rules)) c.if-written-eq-ACCEPTED.false (search rules)
-    (omega (arith, c.struct_known-1.given)) (search rules) c.put_refusal.ensures in
+pub returns-in-Err : goal.returns-in-Err
+returns-in-Err c =
+    let told = rw c.number.ensures at c.put_refusal.ensures in
+    let printed = refusal_printed c.in-Err.ensures (clean_in_page _ (search rules))
+    (eqb-false _ _ (refusal_has_number c.in-Err.refused.refusal))
+    (omega (arith, c.number.ensures, c.number.type_inv)) (search rules) (search rules)
+    (written_whole c.new-told.ensures.begun told (search rules) c.place.ensures) in
     record { wrote = printed.0; fits = printed.1 }

@@ -1,9 +1,7 @@
 -- `cleaning::put_clean` meets its contract: the head, the states' lines and the closing line, one after the other.
-use mathlib.Core.Path.{sym}
-use lib.Seq.{length-take-le}
-use Rattle.writing.specs.inner.Writing.{wrote_on, wrote_then}
-use Rattle.cleaning.specs.Clean.{stored_text}
-use Rattle.cleaning.specs.Clean.{clean_in}
+use Rattle.std.proofs.Common.{sym, rules, length-take-le}
+use Rattle.writing.specs.inner.Page.{appended_then, written_whole}
+use Rattle.cleaning.specs.Clean.{stored_text, clean_in}
 use Rattle.cleaning.specs.inner.Room.{each_read, counted}
 use Rattle.cleaning.proofs.put_clean.Goals as goal
 
@@ -13,14 +11,13 @@ slice_bounds-populations-end c = each_read c.requires.cleanable
 pub slice_bounds-put_states-end : goal.slice_bounds-put_states-end
 slice_bounds-put_states-end c = sym (length-take-le _ _ (each_read c.requires.cleanable))
 
-pub put_states-states-requires : goal.put_states-states-requires
-put_states-states-requires c =
-    let pre = c.requires in
-    record { begun = wrote_on c.put_head-head.ensures; placed = rw (counted pre.cleanable) pre.placed }
+pub put_states-requires : goal.put_states-requires
+put_states-requires c = rw (counted c.requires.cleanable) c.requires.placed
 
 pub returns : goal.returns
 unfolding clean_in stored_text
 returns c =
     let fit = c.requires.cleanable in
+    let whole = appended_then (appended_then c.put_head.ensures c.put_states.ensures) c.put_pair.ensures in
     rw (counted fit, ← fit.sound.populations.summed)
-    (wrote_then (wrote_then c.put_head-head.ensures c.put_states-states.ensures) c.put_pair.ensures)
+    (written_whole c.new-page.ensures.begun whole (search rules) c.place.ensures)

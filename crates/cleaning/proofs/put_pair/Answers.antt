@@ -1,13 +1,9 @@
 -- `cleaning::put_pair` meets its contract: its pieces, one after the other.
-use Rattle.writing.specs.inner.Writing.{wrote_then}
+use Rattle.writing.specs.inner.Page.{appended_then}
 use Rattle.cleaning.specs.inner.Stored.{pair_without_tail}
 use Rattle.cleaning.proofs.put_pair.Goals as goal
 
 pub returns : goal.returns
 returns c =
-    rw pair_without_tail
-    (wrote_then
-    (wrote_then
-    (wrote_then c.put_bytes-first.ensures c.put_byte-comma.ensures)
-    c.put_decimal-digits.ensures)
-    c.put_byte.ensures)
+    let word = appended_then c.put_bytes.ensures c.put_byte.ensures in
+    rw pair_without_tail (appended_then (appended_then word c.put_decimal.ensures) c.put_byte-2.ensures)

@@ -1,39 +1,32 @@
 -- `cleaning::write_clean` meets its contract: a register that is refused is refused with its line, and any other is written clean.
-use native.Mathlib.Omega.{arith}
+use Rattle.std.proofs.Common.{◌≡◌, refl, arith, rules, Ok, Err}
+use Rattle.register.specs.Register.{reading_outcome}
 use Rattle.register.specs.inner.Sound.{GoodReading}
 use Rattle.cleaning.specs.inner.Cleaned.{reading_refused, read_cleanable, read_cleaned}
 use Rattle.cleaning.proofs.write_clean.Goals as goal
-use Rattle.cleaning.proofs.write_clean.Goals.{Else-reading-ne-ACCEPTED}
+use Rattle.cleaning.proofs.write_clean.Goals.{In_ok-reading}
 
-accepted_there : (c : Else-reading-ne-ACCEPTED) → GoodReading c.args.register.now c.read_places-reading.result
-accepted_there c = record { reading = c.read_places-reading.ensures.reading; good = c.if-reading-ne-ACCEPTED.false }
+was_read : (c : In_ok-reading) → GoodReading c.args.register.now (reading_outcome (Ok c.in_ok-reading.reading))
+was_read c = record { reading = c.in_ok-reading.ensures.reading; good = refl }
 
-pub returns-then-reading-ne-ACCEPTED : goal.returns-then-reading-ne-ACCEPTED
-returns-then-reading-ne-ACCEPTED c =
-    let is = c.read_places-reading.ensures.reading in
-    rw c.refused.ensures (reading_refused _ _ is c.if-reading-ne-ACCEPTED.true)
+pub returns-in_err-reading : goal.returns-in_err-reading
+returns-in_err-reading c =
+    let given : c.from_residual.result ≡ Err c.in_err-reading.field-0.0 = search rules in
+    rw given (reading_refused _ _ _ c.in_err-reading.ensures.reading)
 
-pub copy_few-requires : goal.copy_few-requires
-copy_few-requires c =
-    record {
-      cleanable =
-          (read_cleanable (accepted_there (goal.at.copy_few-requires c).Else-reading-ne-ACCEPTED) c.of-rows.ensures, omega arith);
-      placed =
-          rw c.of-rows.ensures (c.read_places-reading.ensures.placed c.if-reading-ne-ACCEPTED.false);
-    }
+pub copy_by-requires : goal.copy_by-requires
+copy_by-requires c =
+    let fit = read_cleanable (was_read (goal.at.copy_by-requires c).In_ok-reading) c.of-rows.ensures in
+    record { cleanable = (fit, omega arith, omega arith); placed = rw c.of-rows.ensures c.in_ok-reading.ensures.placed }
+
+pub copy_by-requires-2 : goal.copy_by-requires-2
+copy_by-requires-2 c =
+    let fit = read_cleanable (was_read (goal.at.copy_by-requires-2 c).In_ok-reading) c.of-rows.ensures in
+    record { cleanable = (fit, omega (arith, fit.sound.states), omega arith); placed = rw c.of-rows.ensures c.in_ok-reading.ensures.placed }
 
 pub returns-then-reading-le-FEW_STATES : goal.returns-then-reading-le-FEW_STATES
 returns-then-reading-le-FEW_STATES c =
-    read_cleaned (accepted_there (goal.at.returns-then-reading-le-FEW_STATES c).Else-reading-ne-ACCEPTED) c.of-rows.ensures
-    c.copy_few.ensures
-
-pub copy_many-requires : goal.copy_many-requires
-copy_many-requires c =
-    record {
-      cleanable = read_cleanable (accepted_there (goal.at.copy_many-requires c).Else-reading-ne-ACCEPTED) c.of-rows.ensures;
-      placed = rw c.of-rows.ensures (c.read_places-reading.ensures.placed c.if-reading-ne-ACCEPTED.false);
-    }
+    read_cleaned (was_read (goal.at.returns-then-reading-le-FEW_STATES c).In_ok-reading) c.of-rows.ensures c.copy_by.ensures
 
 pub returns : goal.returns
-returns c =
-    read_cleaned (accepted_there (goal.at.returns c).Else-reading-ne-ACCEPTED) c.of-rows.ensures c.copy_many.ensures
+returns c = read_cleaned (was_read (goal.at.returns c).In_ok-reading) c.of-rows.ensures c.copy_by-2.ensures

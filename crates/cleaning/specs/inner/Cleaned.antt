@@ -1,16 +1,18 @@
 -- What writing a clean form comes to in each of its cases, and that what was read may be written clean.
 -- Assumes nothing.
-use Rattle.std.specs.Prelude.{◌≡◌, List, ℕ, ◌≤◌, length}
-use Rattle.std.proofs.Common.{sym, ap, arith}
+use Rattle.std.specs.Prelude.{◌≡◌, List, ℕ, ◌≤◌, length, Err}
+use Rattle.std.proofs.Common.{arith}
 use Rattle.apportionment.specs.Refusals.{accepted}
 use Rattle.register.specs.Register.{reading_of, populations_in}
 use Rattle.register.specs.Register.{rows_of, name_in_row, name_of}
 use Rattle.register.specs.inner.Rows.{name_limited}
 use Rattle.register.specs.inner.Sound.{reading_sound, reading_lined, GoodReading, name_there}
-use Rattle.register.specs.declared.Reading.{Reading}
-use Rattle.handover.specs.Handover.{refused, WritingIs}
+use Rattle.apportionment.specs.declared.refusals.Refused.{Refused}
+use Rattle.apportionment.specs.inner.Checks.{refusal_has_number}
+use Rattle.std.proofs.lemmas.Bool.{eqb-false}
+use Rattle.register.specs.Register.{ReadingOutcome, reading_outcome, refused as reading_failed}
+use Rattle.handover.specs.Handover.{Written, written_in, WritingIs}
 use Rattle.handover.specs.inner.Handover.{writing_refused}
-use Rattle.handover.specs.declared.Written.{Written}
 use Rattle.cleaning.specs.Clean.{no_tail, clean_in, clean_of, CleanIs}
 use Rattle.cleaning.specs.inner.Stored.{stored_agree}
 use Rattle.cleaning.specs.inner.Room.{clean_room, Cleanable, counted, clean_has_room}
@@ -39,12 +41,13 @@ clean_in_page s enough good = omega (arith, clean_fits s good)
 -- ---- the cases, as the code has them
 
 -- A refusal of reading, with its line.
-pub reading_refused : (s before : List ℕ) {r : Reading} → r ≡ reading_of s → (r.refusal ≡ accepted → ⊥)
-    → CleanIs s before (refused r.refusal r.line) before
-reading_refused s before {r} is bad =
-    writing_refused (clean_of s) before (sym (ap (λ (x : Reading). x.refusal) is)) (sym (ap (λ (x : Reading). x.line) is)) bad
+pub reading_refused : (s before : List ℕ) (e : Refused) → reading_outcome (Err e) ≡ reading_of s
+    → CleanIs s before (written_in (Err e)) before
+unfolding reading_failed
+reading_refused s before e told =
+    writing_refused (clean_of s) before (rw (← told)) (rw (← told)) (eqb-false _ _ (refusal_has_number e.refusal))
 
-module _ {s : List ℕ} {r : Reading} (read : GoodReading s r) {rows : List ℕ} (at_rows : rows ≡ rows_of s) where
+module _ {s : List ℕ} {r : ReadingOutcome} (read : GoodReading s r) {rows : List ℕ} (at_rows : rows ≡ rows_of s) where
   was_good : (reading_of s).refusal ≡ accepted
   was_good = rw read.reading at read.good
 

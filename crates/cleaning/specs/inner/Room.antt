@@ -11,7 +11,7 @@ use Rattle.apportionment.specs.declared.Method.{Method}
 use Rattle.register.specs.Register.{populations_in}
 use Rattle.register.specs.inner.Rows.{name_limit}
 use Rattle.register.specs.inner.Sound.{ReadingSound}
-use Rattle.register.specs.declared.Reading.{Reading}
+use Rattle.register.specs.Register.{ReadingOutcome}
 use Rattle.text.specs.inner.Bounds.{decimal_of_sum, head_line_length, lines_length}
 use Rattle.cleaning.specs.Clean.{pair_line, state_lines, stored_text}
 use Rattle.cleaning.specs.Clean.{no_tail, clean_in}
@@ -36,10 +36,6 @@ room_for states = head_room + states * line_room + total_room
 
 abbrev pub clean_room : ℕ
 clean_room = room_for state_limit
-
--- So few states are written on a page of their own.
-abbrev pub few_states : ℕ
-few_states = 150
 
 -- ---- lines
 
@@ -80,11 +76,11 @@ clean_length m H name ps house few limited short =
     ))
 
 -- What was read may be written clean with these names.
-pub record Cleanable (r : Reading) (name : ℕ → List ℕ) : Type 0 where
+pub record Cleanable (r : ReadingOutcome) (name : ℕ → List ℕ) : Type 0 where
   pub sound : ReadingSound r
   pub short_names : (i : ℕ) → i < r.states → length (name i) ≤ name_limit
 
-module _ {r : Reading} {name : ℕ → List ℕ} (fit : Cleanable r name) where
+module _ {r : ReadingOutcome} {name : ℕ → List ℕ} (fit : Cleanable r name) where
   pub each_read : r.states ≤ length r.populations
   each_read = omega (arith, fit.sound.states, fit.sound.populations.room)
 

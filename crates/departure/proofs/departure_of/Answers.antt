@@ -1,28 +1,27 @@
 -- `departure::departure_of` is right because what it does not refuse is within the limits, and there the exact departure is
 -- shown and marked as document 01 has it.
-use mathlib.Core.Path.{◌∙◌, sym}
+use Rattle.std.proofs.Common.{◌≡◌, sym, rules, Err}
 use native.Mathlib.Nat.{pos_of_ne-zero}
 use Rattle.departure.specs.inner.Answer.{moderate_size, not_refused, refused_answer, seated_answer, unseated_answer}
 use Rattle.departure.specs.inner.Exact.{exact_shown, exact_size}
 use Rattle.wide.proofs.Signed.{read_back}
 use Rattle.departure.proofs.departure_of.Goals as goal
 
-pub returns-then-departure_refusal-ne-ACCEPTED : goal.returns-then-departure_refusal-ne-ACCEPTED
-returns-then-departure_refusal-ne-ACCEPTED c =
-    refused_answer _ _ _ _ (λ good. c.if-departure_refusal-ne-ACCEPTED.true (c.departure_refusal.ensures ∙ good))
+pub returns-in_err-check_limits : goal.returns-in_err-check_limits
+returns-in_err-check_limits c =
+    let given : c.from_residual.result ≡ Err c.in_err-check_limits.field-0.0 = search rules in
+    rw given (refused_answer _ _ _ _ c.in_err-check_limits.ensures)
 
 pub returns-then-seats-eq0 : goal.returns-then-seats-eq0
-returns-then-seats-eq0 c =
-    unseated_answer _ _ _ _ (sym c.departure_refusal.ensures ∙ c.if-departure_refusal-ne-ACCEPTED.false) c.if-seats-eq0.true
+returns-then-seats-eq0 c = unseated_answer _ _ _ _ (sym c.in_ok-check_limits.ensures) c.if-seats-eq0.true
 
 pub of-exact-requires : goal.of-exact-requires
-of-exact-requires c = not_refused _ _ _ _ (sym c.departure_refusal.ensures ∙ c.if-departure_refusal-ne-ACCEPTED.false)
+of-exact-requires c = not_refused _ _ _ _ (sym c.in_ok-check_limits.ensures)
 
 pub shown-requires : goal.shown-requires
 shown-requires c =
     rw (c.of-exact.ensures, exact_size)
-    (moderate_size (not_refused _ _ _ _ (sym c.departure_refusal.ensures ∙ c.if-departure_refusal-ne-ACCEPTED.false))
-    (pos_of_ne-zero c.if-seats-eq0.false))
+    (moderate_size (not_refused _ _ _ _ (sym c.in_ok-check_limits.ensures)) (pos_of_ne-zero c.if-seats-eq0.false))
 
 pub returns : goal.returns
 returns c =
@@ -34,4 +33,4 @@ returns c =
       exact_shown,
       exact_size,
     )
-    (seated_answer _ _ _ _ (sym c.departure_refusal.ensures ∙ c.if-departure_refusal-ne-ACCEPTED.false) c.if-seats-eq0.false)
+    (seated_answer _ _ _ _ (sym c.in_ok-check_limits.ensures) c.if-seats-eq0.false)

@@ -1,39 +1,43 @@
 -- The departure operation: its promise leaves one answer for each input, which answer that is in each case, and that it is refused exactly
 -- outside the limits.
 -- Assumes nothing.
-use Rattle.std.specs.Prelude.{◌≡◌, refl, Bool, true, false, cond, ◌↔◌, List, ℕ, ◌*◌, ◌<◌, ◌≤◌, ltb, length, get_or}
-use Rattle.std.proofs.Math.Path.{sym}
+use Rattle.std.specs.Prelude.{◌≡◌, refl, Bool, true, false, cond, ◌↔◌, List, ℕ, ◌*◌, ◌<◌, ◌≤◌, eqb, ltb, length, get_or}
+use Rattle.std.specs.Prelude.{Option, Some, None, Result, Ok, Err}
+use Rattle.std.proofs.Math.Path.{sym, ap}
 use Rattle.std.proofs.Math.Nat.{mul-le-mul, mul-pos}
 use Rattle.std.proofs.Common.{le_trans, le_refl, arith}
 use borrow.Author.Tests.{ltb-false, le-ltb, eq-eqb, ne_eqb}
 use Rattle.apportionment.specs.Limits.{house_limit, sum_limit}
-use Rattle.apportionment.specs.Refusals.{accepted, departure_out_of_limits}
+use Rattle.apportionment.specs.Refusals.{accepted, departure_out_of_limits, refusal_number, refusal_of}
 use Rattle.apportionment.specs.Refusals.{outside, first_refusal}
-use Rattle.apportionment.specs.inner.Checks.{check_passed, inside_limits, inside_false}
+use Rattle.apportionment.specs.inner.Checks.{check_passed, inside_limits, inside_false, refusal_has_number, refusal_by_number}
 use Rattle.apportionment.specs.Quantities.{distance, mark_for, mark_of, shown_of, size_of}
-use Rattle.departure.specs.declared.Answer.{Answer}
-use Rattle.departure.specs.declared.Answer.TheVariants.{Refused, NoSeats, Shown}
+use Rattle.apportionment.specs.declared.refusals.Refusal.{Refusal}
+use Rattle.departure.specs.declared.Shown.{Shown}
 use Rattle.departure.specs.inner.Exact.{Moderate}
 use Rattle.departure.specs.Answer.{departure_refusal, departure_shown, departure_mark}
-use Rattle.departure.specs.Answer.{number_of, shown_in, mark_in, AnswerIs}
+use Rattle.departure.specs.Answer.{shown_in, mark_in, AnswerIs}
 
 -- ---- what the operation promises
 
 -- Answers with the same number, shown departure and mark are the same ..
-same_answer : (r s : Answer) → number_of r ≡ number_of s → shown_in r ≡ shown_in s → mark_in r ≡ mark_in s → r ≡ s
-unfolding number_of shown_in mark_in
-same_answer Refused Refused number shown mark = refl
-same_answer Refused NoSeats number shown mark = cc
-same_answer Refused (Shown h m) number shown mark = cc
-same_answer NoSeats Refused number shown mark = cc
-same_answer NoSeats NoSeats number shown mark = refl
-same_answer NoSeats (Shown h m) number shown mark = cc
-same_answer (Shown h m) Refused number shown mark = cc
-same_answer (Shown h m) NoSeats number shown mark = cc
-same_answer (Shown h m) (Shown k n) number shown mark = cc
+same_answer : (r s : Result (Option Shown) Refusal) → refusal_of r ≡ refusal_of s → shown_in r ≡ shown_in s → mark_in r ≡ mark_in s → r ≡ s
+unfolding shown_in mark_in
+same_answer (Err e) (Err f) number shown mark = ap Err (refusal_by_number e f number)
+same_answer (Err e) (Ok None) number shown mark = cc
+same_answer (Err e) (Ok (Some x)) number shown mark = cc
+same_answer (Ok None) (Err f) number shown mark = cc
+same_answer (Ok None) (Ok None) number shown mark = refl
+same_answer (Ok None) (Ok (Some x)) number shown mark = cc
+same_answer (Ok (Some x)) (Err f) number shown mark = cc
+same_answer (Ok (Some x)) (Ok None) number shown mark = cc
+same_answer (Ok (Some x)) (Ok (Some y)) number shown mark =
+    let departures : x.shown ≡ y.shown = cc in
+    let marks : x.mark ≡ y.mark = cc in
+    ap (λ (z : Shown). Ok (Some z)) (rw (departures, marks))
 
 -- .. so the promise leaves one answer for each input.
-pub one_answer : (p a P H : ℕ) (r s : Answer) → AnswerIs p a P H r → AnswerIs p a P H s → r ≡ s
+pub one_answer : (p a P H : ℕ) (r s : Result (Option Shown) Refusal) → AnswerIs p a P H r → AnswerIs p a P H s → r ≡ s
 one_answer p a P H r s first second = same_answer r s (cc) (cc) (cc)
 
 -- ---- the limits
@@ -112,22 +116,22 @@ refused_exactly p a P H = (
 -- ---- which answer is promised
 
 module _ (p a P H : ℕ) where
-  pub refused_answer : (departure_refusal p a P H ≡ accepted → ⊥) → AnswerIs p a P H Refused
-  unfolding number_of shown_in mark_in departure_shown departure_mark
-  refused_answer refused =
-      let no = ne_eqb (departure_refusal p a P H) accepted refused in
-      record { number = sym (refused_is_30 p a P H refused); shown = simp no; mark = simp no }
+  pub refused_answer : {refusal : Refusal} → refusal_number refusal ≡ departure_refusal p a P H → AnswerIs p a P H (Err refusal)
+  unfolding shown_in mark_in departure_shown departure_mark
+  refused_answer {refusal} given =
+      let no : eqb (departure_refusal p a P H) accepted ≡ false = rw given at (refusal_has_number refusal) in
+      record { number = given; shown = simp no; mark = simp no }
 
-  pub unseated_answer : departure_refusal p a P H ≡ accepted → a ≡ 0 → AnswerIs p a P H NoSeats
-  unfolding number_of shown_in mark_in departure_shown departure_mark mark_for
+  pub unseated_answer : departure_refusal p a P H ≡ accepted → a ≡ 0 → AnswerIs p a P H (Ok None)
+  unfolding shown_in mark_in departure_shown departure_mark mark_for
   unseated_answer good unseated =
       let yes = eq-eqb (departure_refusal p a P H) accepted good in
       let bare = eq-eqb a 0 unseated in
       record { number = sym good; shown = simp (yes, bare); mark = simp (yes, bare) }
 
   pub seated_answer : departure_refusal p a P H ≡ accepted → (a ≡ 0 → ⊥)
-      → AnswerIs p a P H (Shown (shown_of p a P H) (mark_of (size_of p a P H)))
-  unfolding number_of shown_in mark_in departure_shown departure_mark mark_for
+      → AnswerIs p a P H (Ok (Some (record { shown = shown_of p a P H; mark = mark_of (size_of p a P H) })))
+  unfolding shown_in mark_in departure_shown departure_mark mark_for
   seated_answer good seated =
       let yes = eq-eqb (departure_refusal p a P H) accepted good in
       let some_seat = ne_eqb a 0 seated in

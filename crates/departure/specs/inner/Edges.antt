@@ -11,9 +11,12 @@ use Rattle.apportionment.specs.Quantities.{Fraction, at_most, distance, is_below
 use Rattle.apportionment.specs.Quantities.{shown_of, shown_scale, shown_size}
 use Rattle.apportionment.specs.declared.Mark.{Mark}
 use Rattle.apportionment.specs.declared.Mark.TheVariants.{In, High, Over}
-use Rattle.departure.specs.declared.Answer.{Answer}
-use Rattle.departure.specs.declared.Answer.TheVariants.{Refused, NoSeats, Shown}
-use Rattle.departure.specs.Answer.{departure_mark, departure_refusal, departure_shown, mark_in, number_of, shown_in}
+use Rattle.std.specs.Prelude.{Option as CodeOption, Some, None, Result, Ok, Err}
+use Rattle.apportionment.specs.Refusals.{refusal_of}
+use Rattle.apportionment.specs.declared.refusals.Refusal.{Refusal}
+use Rattle.apportionment.specs.declared.refusals.Refusal.TheVariants.{DepartureOutOfLimits}
+use Rattle.departure.specs.declared.Shown.{Shown}
+use Rattle.departure.specs.Answer.{departure_mark, departure_refusal, departure_shown, mark_in, shown_in}
 
 -- ---- the nearest
 
@@ -76,6 +79,18 @@ half_goes_away_from_zero p a P H k positive e = simp (half_goes_up (shown_scale 
 pub data Input : Type 0 where
   departure : (p a P H : ℕ) → Input
 
+abbrev Answer : Type 0
+Answer = Result (CodeOption Shown) Refusal
+
+abbrev shows : ℤ → Mark → Answer
+shows thousandths mark = Ok (Some (record { shown = thousandths; mark = mark }))
+
+abbrev no_seats : Answer
+no_seats = Ok None
+
+abbrev refused : Answer
+refused = Err DepartureOutOfLimits
+
 -- An input beside the answer that is wanted.
 infixl 4 ◌gives◌
 pub data Case : Type 0 where
@@ -86,50 +101,50 @@ unfoldable pub given : Case → ℕ × Option ℤ × Option Mark
 given (departure p a P H gives answer) = (departure_refusal p a P H, departure_shown p a P H, departure_mark p a P H)
 
 unfoldable pub wanted : Case → ℕ × Option ℤ × Option Mark
-wanted (input gives answer) = (number_of answer, shown_in answer, mark_in answer)
+wanted (input gives answer) = (refusal_of answer, shown_in answer, mark_in answer)
 
 unfoldable pub at_the_edges : List Case
 at_the_edges =
     -- at the average; at 10 and 15 per cent exactly, on either side; and just above 10, where one shows the same and one does not
-    (departure 10 1 20 2 gives Shown (pos 0) In)
-    ∷ (departure 9 1 20 2 gives Shown (negsuc 9999) In)
-    ∷ (departure 11 1 20 2 gives Shown (pos 10000) In)
-    ∷ (departure 1100001 1 2000000 2 gives Shown (pos 10000) High)
-    ∷ (departure 110001 1 200000 2 gives Shown (pos 10001) High)
-    ∷ (departure 23 1 40 2 gives Shown (pos 15000) High)
-    ∷ (departure 17 1 40 2 gives Shown (negsuc 14999) High)
+    (departure 10 1 20 2 gives shows (pos 0) In)
+    ∷ (departure 9 1 20 2 gives shows (negsuc 9999) In)
+    ∷ (departure 11 1 20 2 gives shows (pos 10000) In)
+    ∷ (departure 1100001 1 2000000 2 gives shows (pos 10000) High)
+    ∷ (departure 110001 1 200000 2 gives shows (pos 10001) High)
+    ∷ (departure 23 1 40 2 gives shows (pos 15000) High)
+    ∷ (departure 17 1 40 2 gives shows (negsuc 14999) High)
     -- halves of a thousandth
-    ∷ (departure 200001 1 400000 2 gives Shown (pos 1) In)
-    ∷ (departure 199999 1 400000 2 gives Shown (negsuc 0) In)
-    ∷ (departure 200003 1 400000 2 gives Shown (pos 2) In)
-    ∷ (departure 199997 1 400000 2 gives Shown (negsuc 1) In)
-    ∷ (departure 133334 1 4000000000 30000 gives Shown (pos 1) In)
-    ∷ (departure 133330 1 4000000000 30000 gives Shown (negsuc 2) In)
-    ∷ (departure 3999999998 1 4000000000 30000 gives Shown (pos 2999899999) Over)
+    ∷ (departure 200001 1 400000 2 gives shows (pos 1) In)
+    ∷ (departure 199999 1 400000 2 gives shows (negsuc 0) In)
+    ∷ (departure 200003 1 400000 2 gives shows (pos 2) In)
+    ∷ (departure 199997 1 400000 2 gives shows (negsuc 1) In)
+    ∷ (departure 133334 1 4000000000 30000 gives shows (pos 1) In)
+    ∷ (departure 133330 1 4000000000 30000 gives shows (negsuc 2) In)
+    ∷ (departure 3999999998 1 4000000000 30000 gives shows (pos 2999899999) Over)
     -- halves whose scaled remainder is beyond 2^63
-    ∷ (departure 60000 30000 4000000000 30000 gives Shown (negsuc 99998) Over)
-    ∷ (departure 286331153 25600 4294967295 30000 gives Shown (negsuc 92187) Over)
+    ∷ (departure 60000 30000 4000000000 30000 gives shows (negsuc 99998) Over)
+    ∷ (departure 286331153 25600 4294967295 30000 gives shows (negsuc 92187) Over)
     -- less than half a thousandth
-    ∷ (departure 250001 1 500000 2 gives Shown (pos 0) In)
-    ∷ (departure 249999 1 500000 2 gives Shown (pos 0) In)
+    ∷ (departure 250001 1 500000 2 gives shows (pos 0) In)
+    ∷ (departure 249999 1 500000 2 gives shows (pos 0) In)
     -- the largest departures; below the average the scaled remainder is then beyond 2^63 too
-    ∷ (departure 4294967295 1 4294967295 30000 gives Shown (pos 2999900000) Over)
-    ∷ (departure 1 30000 4294967295 30000 gives Shown (negsuc 99999) Over)
+    ∷ (departure 4294967295 1 4294967295 30000 gives shows (pos 2999900000) Over)
+    ∷ (departure 1 30000 4294967295 30000 gives shows (negsuc 99999) Over)
     -- no seat, and each refusal beside what is still taken
-    ∷ (departure 5 0 10 3 gives NoSeats)
-    ∷ (departure 5 3 10 3 gives Shown (negsuc 49999) Over)
-    ∷ (departure 5 4 10 3 gives Refused)
-    ∷ (departure 0 1 10 3 gives Refused)
-    ∷ (departure 10 1 10 3 gives Shown (pos 200000) Over)
-    ∷ (departure 11 1 10 3 gives Refused)
-    ∷ (departure 5 1 10 0 gives Refused)
-    ∷ (departure 5 0 10 30001 gives Refused)
-    ∷ (departure 5 1 0 3 gives Refused)
-    ∷ (departure 5 1 4294967296 3 gives Refused)
+    ∷ (departure 5 0 10 3 gives no_seats)
+    ∷ (departure 5 3 10 3 gives shows (negsuc 49999) Over)
+    ∷ (departure 5 4 10 3 gives refused)
+    ∷ (departure 0 1 10 3 gives refused)
+    ∷ (departure 10 1 10 3 gives shows (pos 200000) Over)
+    ∷ (departure 11 1 10 3 gives refused)
+    ∷ (departure 5 1 10 0 gives refused)
+    ∷ (departure 5 0 10 30001 gives refused)
+    ∷ (departure 5 1 0 3 gives refused)
+    ∷ (departure 5 1 4294967296 3 gives refused)
     ∷ []
 
 -- Each input gives what is wanted: antt computes them.
 pub edges_hold : map given at_the_edges ≡ map wanted at_the_edges
-unfolding given wanted at_the_edges departure_refusal departure_shown departure_mark number_of shown_in mark_in first_refusal outside
+unfolding given wanted at_the_edges departure_refusal departure_shown departure_mark shown_in mark_in first_refusal outside
     within shown_of is_below shown_size size_of distance nearest_whole mark_for mark_of at_most
 edges_hold = refl

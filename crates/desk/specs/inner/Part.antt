@@ -1,6 +1,6 @@
 -- Laws of where a name stands, which proofs cite.
 -- Assumes nothing.
-use Rattle.std.specs.Prelude.{◌≡◌, List, ℕ, ◌+◌, ◌-◌, ◌≤◌, eqb, length, take, drop}
+use Rattle.std.specs.Prelude.{◌≡◌, List, ℕ, ◌+◌, ◌≤◌, eqb, length, take, drop}
 use Rattle.std.proofs.Common.{sym, ap, ◌∙◌, zero-le, arith}
 use Rattle.apportionment.specs.Refusals.{accepted}
 use Rattle.apportionment.specs.inner.Tests.{either_way}

@@ -13,7 +13,7 @@ use Rattle.claims.specs.inner.Standing.{sum-placed_times}
 use Rattle.claims.specs.inner.Moves.{moved_by, after_move, after_moves, order_passes, order_agrees, first_moves}
 use Rattle.claims.specs.inner.Moves.{after_none, after_more, after_length}
 use Rattle.claims.specs.inner.Tournament.{Winners, winner_lt, root_is_first}
-use Rattle.claims.specs.inner.TournamentReplay.{decided_at, Replaying, replaying_start}
+use Rattle.claims.specs.inner.TournamentReplay.{Replaying, replaying_start}
 use Rattle.claims.specs.inner.DivisorClaims.{method_test}
 use Rattle.claims.specs.inner.DivisorSeats.{method_order, withdrawn_at_most}
 use Rattle.signposts.specs.inner.Claims.{seat_limit}
@@ -28,17 +28,9 @@ moved_once m up ps ss = after_move up no_fewest (method_test m ps) (length ps) s
 abbrev pub moved_seats : DivisorMethod → Bool → (ps ss : List ℕ) → ℕ → List ℕ
 moved_seats m up ps ss times = after_moves up no_fewest (method_test m ps) (length ps) ss times
 
--- One place of a tournament decided.
-abbrev pub Decided : DivisorMethod → Bool → (ps ss : List ℕ) (k : ℕ) (tree after : List ℕ) → Type 0
-Decided m up ps ss k tree after = after ≡ decided_at (moves_before m up ps ss) k tree
-
--- A tournament of the states as they move; and one that is due for a replay from one state's leaf.
+-- A tournament of the states as they move.
 abbrev pub Played : DivisorMethod → Bool → (ps ss tree : List ℕ) → Type 0
 Played m up ps ss tree = Winners (moves_before m up ps ss) (length ps) tree
-
-abbrev pub Replays : DivisorMethod → Bool → (ps ss : List ℕ) → ℕ → List ℕ → Type 0
-Replays m up ps ss place tree =
-    (place < length ps) × Replaying (moves_before m up ps ss) (length ps) ((length ps + place) / 2) tree
 
 -- ---- one move
 
@@ -67,9 +59,9 @@ module _ {m : DivisorMethod} {up : Bool} {ps ss tree : List ℕ} (k : Turn m up 
       let passes = order_passes (method_order ps k.states.some_state k.states.peopled m) up ss (λ i hi. zero-le) in
       first_moves up no_fewest (method_test m ps) (length ps) ss (root_is_first k.played passes k.all.some_state) e
 
-  pub root_replays : (v : ℕ) → Replays m up ps (set ss (get_or tree 1 0) v) (get_or tree 1 0) tree
-  root_replays v =
-      (root_lt, replaying_start k.played (get_or tree 1 0) (order_agrees up no_fewest (method_test m ps) ss (get_or tree 1 0) v))
+  pub root_due : (v : ℕ)
+      → Replaying (moves_before m up ps (set ss (get_or tree 1 0) v)) (length ps) ((length ps + get_or tree 1 0) / 2) tree
+  root_due v = replaying_start k.played (get_or tree 1 0) (order_agrees up no_fewest (method_test m ps) ss (get_or tree 1 0) v)
 
 -- ---- many moves
 

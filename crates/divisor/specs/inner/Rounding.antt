@@ -1,8 +1,7 @@
 -- Rounded seats in machine words: those of one state, and the list of all as a loop fills it in from the front.
 -- Assumes nothing.
 use Rattle.std.specs.Prelude.{◌≡◌, Bool, cond, List, ℕ, ◌+◌, ◌*◌, ◌/◌, ◌≤◌, ◌<◌, length, get_or, set}
-use Rattle.std.proofs.Common.{sym, ap, ◌∙◌, arith, mul-le-mul_right}
-use Rattle.std.proofs.Math.Nat.{div-le_of_le-mul}
+use Rattle.std.proofs.Common.{sym, ap, ◌∙◌, arith}
 use Rattle.apportionment.specs.Limits.{sum_limit}
 use Rattle.apportionment.specs.Lists.{sum, list_of}
 use Rattle.apportionment.specs.Quantities.{less}
@@ -15,7 +14,7 @@ use Rattle.claims.specs.inner.DivisorClaims.{average_claim, rounded, rounded_sea
 use Rattle.claims.specs.inner.DivisorRounding.{length_rounded}
 use Rattle.claims.specs.inner.DivisorSeats.{rounded_at_most}
 use Rattle.signposts.specs.declared.Claim.{Claim}
-use Rattle.signposts.specs.inner.Claims.{held, claim_for, less_claim, aim_limit, seat_limit, ClaimFits}
+use Rattle.signposts.specs.inner.Claims.{claim_for, less_claim, aim_limit, seat_limit}
 
 -- ---- one state
 
@@ -30,18 +29,12 @@ pub each_share_fits : {ps : List ℕ} {P A : ℕ} → States ps P → A ≤ aim_
 each_share_fits k aim i =
     record { one_of_all = entry_at_most_total k i; someone = sum_above_zero k; sum_within = k.sum_within; aim_within = aim }
 
-pub whole_at_most : {p P A : ℕ} → ShareFits p P A → p * A / P ≤ A
-whole_at_most {p} {P} {A} k = div-le_of_le-mul P (mul-le-mul_right A k.one_of_all)
-
-pub whole_claim_fits : {p P A : ℕ} → ShareFits p P A → ClaimFits p (p * A / P)
-whole_claim_fits k = record { people_within = omega arith; seats_within = omega (arith, whole_at_most k, k.aim_within) }
-
 -- The test against the average, in machine words, says which seats are the rounded ones.
 pub rounded_by_test : (m : DivisorMethod) (P A p : ℕ) {over under : ℕ} {claim : Claim} {found t : Bool}
     → over ≡ weight_of m A → under ≡ weight_of m P → claim ≡ claim_for m p (p * A / P)
     → found ≡ less_claim (record { over = over; under = under }) claim → found ≡ t
     → cond t (p * A / P) (p * A / P + 1) ≡ rounded m P A p
-unfolding rounded claim_for held less average_claim
+unfolding rounded less average_claim
 rounded_by_test m P A p e f g test answer = rw (← answer, test, e, f, g)
 
 -- ---- all states

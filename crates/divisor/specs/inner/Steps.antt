@@ -1,10 +1,11 @@
 -- From the rounded seats to the house: the moves between are within bounds, and lead to the method's allotment.
 -- Assumes nothing.
-use Rattle.std.specs.Prelude.{◌≡◌, Bool, true, false, List, ℕ, ◌+◌, ◌-◌, ◌≤◌, ◌<◌, length, get_or}
-use Rattle.std.proofs.Common.{sym, ap, ◌∙◌}
-use native.Mathlib.Omega.{arith}
+use Rattle.std.specs.Prelude.{◌≡◌, Bool, true, false, List, ℕ, ◌+◌, ◌-◌, ◌≤◌, ◌<◌, leb, length, get_or}
+use Rattle.std.specs.Int.{abs_diff}
+use Rattle.std.proofs.Common.{sym, ap, ◌∙◌, arith, leb-true, leb-false}
 use Rattle.apportionment.specs.Lists.{sum, list_of}
 use Rattle.apportionment.specs.inner.Lists.{sum-list_of_zero}
+use Rattle.apportionment.specs.inner.Tests.{either_way}
 use Rattle.apportionment.specs.inner.Problem.{States, Fillable, entry_at_most_total}
 use Rattle.apportionment.specs.Divisor.{divisor_seats}
 use Rattle.apportionment.specs.declared.DivisorMethod.{DivisorMethod}
@@ -58,6 +59,10 @@ module _ {m : DivisorMethod} {ps before ss : List ℕ} {P H given : ℕ} (k : Fi
         room = λ e. omega (arith, start_sum, k.problem.house_within, fits e);
       }
 
+  -- What is lacking can be placed, and what is too much withdrawn.
+  pub moves_to_house : {times : ℕ} → times ≡ abs_diff H given → Moves (leb given H) ps ss times
+  moves_to_house e = start_moves (leb given H) (λ up. omega (arith, leb-true given H up, e))
+
   -- Rounded seats stand, so the steps lead to the method's allotment, whichever house they were rounded for.
   start_stands : Standing (length ps) (λ _. 0) (method_test m ps) ss
   start_stands = rw start.filled.seats (rounded_standing ps states.some_state states.peopled m start.aim)
@@ -85,3 +90,16 @@ module _ {m : DivisorMethod} {ps before ss : List ℕ} {P H given : ℕ} (k : Fi
       e ∙ standing_is_divisor ps some states.peopled m _ H
       (placed_times_standing (length ps) (λ _. 0) (method_test m ps) order ss (H - given) some start_stands)
       (omega (arith, start_sum, sum-placed_times (length ps) (method_test m ps) ss (H - given) some (filled_length start.filled)))
+
+  pub moved_is_divisor : {times : ℕ} → times ≡ abs_diff H given → {after : List ℕ} → after ≡ moved_seats m (leb given H) ps ss times
+      → after ≡ divisor_seats m ps H
+  moved_is_divisor {times} e moved =
+      either_way (leb given H)
+      (λ up.
+      let few = leb-true given H up in
+      let all : times ≡ H - given = omega (arith, e, few) in
+      placed_is_divisor few (rw (up, all) at moved))
+      (λ down.
+      let many = leb-false given H down in
+      let all : times ≡ given - H = omega (arith, e, many) in
+      withdrawn_is_divisor many (rw (down, all) at moved))

@@ -1,25 +1,18 @@
 -- Laws of what Grammar.antt defines, which proofs cite.
 -- Assumes nothing.
-use Rattle.std.specs.Prelude.{◌≡◌, refl, true, cond, List, [], ◌∷◌, ℕ, ◌+◌, ◌-◌, ◌*◌, ◌^◌, ◌<◌, ◌≤◌, length, get_or, drop}
+use Rattle.std.specs.Prelude.{◌≡◌, refl, Bool, true, List, [], ◌∷◌, ℕ, ◌+◌, ◌-◌, ◌*◌, ◌^◌, ◌<◌, ◌≤◌, length, get_or, drop}
 use Rattle.std.proofs.Common.{pow-suc, lt_of_lt_of_le, add-one, arith, drop_of_length-le}
 use Rattle.std.proofs.Math.Nat.{pow-le-pow_right}
 use Rattle.apportionment.specs.Refusals.{within}
 use Rattle.apportionment.specs.Lists.{same_list}
-use Rattle.apportionment.specs.Methods.{methods, method_text, method_at, last_method}
-use Rattle.apportionment.specs.inner.Methods.{methods_from}
+use Rattle.apportionment.specs.Methods.{method_text}
+use Rattle.std.specs.List.{find}
+use Rattle.apportionment.specs.declared.Method.{Method}
 use Rattle.fields.specs.inner.Tests.{both}
 use Rattle.apportionment.specs.inner.Checks.{within_limits}
 use Rattle.fields.specs.Grammar.{all_between}
 use Rattle.fields.specs.inner.Parts.{drop_step, between_at}
-use Rattle.fields.specs.Grammar.{last_byte, without_return, digit_limit, is_number, value_from, word_limit, is_name, first_named}
-use Rattle.fields.specs.declared.Named.TheVariants.{Known, Unknown}
-
--- ---- lines
-
-pub nothing_without_return : (s : List ℕ) → length s ≡ 0 → s ≡ without_return s
-unfolding without_return last_byte
-nothing_without_return [] none = refl
-nothing_without_return (x ∷ s) none = absurd (omega arith)
+use Rattle.fields.specs.Grammar.{digit_limit, is_number, value_from, word_limit, is_name, first_named}
 
 -- ---- numbers
 
@@ -56,13 +49,9 @@ pub name_length : (f : List ℕ) → is_name f ≡ true → (1 ≤ length f) × 
 unfolding is_name
 name_length f name = within_limits word_limit (length f) (both (within word_limit (length f)) _ name).0
 
--- Of the methods from a number on, the first is named if the field is its word, and otherwise one of those after it; past the last, none.
-pub named_from : (f : List ℕ) (n : ℕ) → n ≤ last_method
-    → first_named f (drop n methods)
-    ≡ cond (same_list f (method_text (method_at n))) (Known (method_at n)) (first_named f (drop (n + 1) methods))
+-- The first of some methods whose word passes the test of being the field.
+pub first_named_is : (test : Method → Bool) (f : List ℕ) → ((m : Method) → test m ≡ same_list f (method_text m)) → (ms : List Method)
+    → find test ms ≡ first_named f ms
 unfolding first_named
-named_from f n within = rw (methods_from n within)
-
-pub named_past : (f : List ℕ) (n : ℕ) → length methods ≤ n → first_named f (drop n methods) ≡ Unknown
-unfolding first_named
-named_past f n past = rw (drop_of_length-le methods past)
+first_named_is test f each [] = refl
+first_named_is test f each (m ∷ ms) = rw (each m, first_named_is test f each ms)

@@ -1,11 +1,12 @@
 -- Laws of parts of a run of bytes, which proofs cite.
 -- Assumes nothing.
-use Rattle.std.specs.Prelude.{◌≡◌, refl, true, false, cond, List, [], ◌∷◌, ℕ, zero, suc, ◌+◌, ◌<◌, ◌≤◌, leb, eqb, length, get_or, drop}
-use Rattle.std.proofs.Math.Bool.{and-false}
-use Rattle.std.proofs.Common.{add-one, arith, leb-true, le-leb, eq-eqb, ne_eqb, drop_of_length-le, drop-cons}
-use Rattle.std.proofs.lemmas.Bool.{lt-leb}
+use Rattle.std.specs.Prelude.{◌≡◌, refl, Bool, true, false, cond, ◌&&◌, List, [], ◌∷◌, ℕ, zero, suc, ◌+◌, ◌<◌, ◌≤◌, leb, eqb, length}
+use Rattle.std.specs.Prelude.{get_or, drop}
+use Rattle.std.specs.List.{list_all, position_or_len}
+use lib.Pointwise.{pointwise}
+use Rattle.std.proofs.Common.{add-one, arith, leb-true, drop-cons}
 use Rattle.apportionment.specs.Lists.{same_list}
-use Rattle.apportionment.specs.inner.Tests.{cond_both}
+use Rattle.apportionment.specs.inner.Tests.{cond_both, either_way}
 use Rattle.fields.specs.inner.Tests.{both}
 use Rattle.fields.specs.Grammar.{place_of, all_between}
 
@@ -15,18 +16,11 @@ drop_step s i inside = rw (add-one, drop-cons s i 0)
 
 -- ---- the first of a given byte
 
-pub place_found : (b : ℕ) (s : List ℕ) (i : ℕ) → i < length s → get_or s i 0 ≡ b → place_of b (drop i s) ≡ 0
+-- The first place at which a test of one byte passes.
+pub place_is : (b : ℕ) (s : List ℕ) → position_or_len (λ x. eqb x b) s ≡ place_of b s
 unfolding place_of
-place_found b s i inside here = rw (drop_step s i inside, eq-eqb (get_or s i 0) b here)
-
-pub place_passed : (b : ℕ) (s : List ℕ) (i : ℕ) → i < length s → (get_or s i 0 ≡ b → ⊥)
-    → place_of b (drop i s) ≡ suc (place_of b (drop (i + 1) s))
-unfolding place_of
-place_passed b s i inside other = rw (drop_step s i inside, ne_eqb (get_or s i 0) b other)
-
-pub place_end : (b : ℕ) (s : List ℕ) (i : ℕ) → length s ≤ i → place_of b (drop i s) ≡ 0
-unfolding place_of
-place_end b s i past = rw (drop_of_length-le s past)
+place_is b [] = refl
+place_is b (x ∷ s) = either_way (eqb x b) (λ here. rw here) (λ other. rw other (omega (arith, place_is b s)))
 
 pub place_within_lem : (b : ℕ) (s : List ℕ) → place_of b s ≤ length s
 unfolding place_of
@@ -36,25 +30,18 @@ place_within_lem b (x ∷ s) =
 
 -- ---- bytes in a range
 
-pub between_below : (lo hi : ℕ) (s : List ℕ) (i : ℕ) → i < length s → get_or s i 0 < lo → all_between lo hi (drop i s) ≡ false
-unfolding all_between
-between_below lo hi s i inside low = rw (drop_step s i inside, lt-leb lo (get_or s i 0) low)
+two_tests : (a b r : Bool) → ((a && b) && r) ≡ cond a (cond b r false) false
+two_tests true true r = refl
+two_tests true false r = refl
+two_tests false b r = refl
 
-pub between_above : (lo hi : ℕ) (s : List ℕ) (i : ℕ) → i < length s → lo ≤ get_or s i 0 → hi < get_or s i 0
-    → all_between lo hi (drop i s) ≡ false
+-- A test of one byte that is made of all of them.
+pub all_between_is : (lo hi : ℕ) (test : ℕ → Bool) → ((x : ℕ) → test x ≡ (leb lo x && leb x hi))
+    → (s : List ℕ) → list_all test s ≡ all_between lo hi s
 unfolding all_between
-between_above lo hi s i inside low high =
-    rw (drop_step s i inside, le-leb lo (get_or s i 0) low, lt-leb (get_or s i 0) hi high)
-
-pub between_passed : (lo hi : ℕ) (s : List ℕ) (i : ℕ) → i < length s → lo ≤ get_or s i 0 → get_or s i 0 ≤ hi
-    → all_between lo hi (drop i s) ≡ all_between lo hi (drop (i + 1) s)
-unfolding all_between
-between_passed lo hi s i inside low high =
-    rw (drop_step s i inside, le-leb lo (get_or s i 0) low, le-leb (get_or s i 0) hi high)
-
-pub between_end : (lo hi : ℕ) (s : List ℕ) (i : ℕ) → length s ≤ i → all_between lo hi (drop i s) ≡ true
-unfolding all_between
-between_end lo hi s i past = rw (drop_of_length-le s past)
+all_between_is lo hi test each [] = refl
+all_between_is lo hi test each (x ∷ s) =
+    rw (each x, all_between_is lo hi test each s) (two_tests (leb lo x) (leb x hi) (all_between lo hi s))
 
 pub between_at : (lo hi : ℕ) (s : List ℕ) → all_between lo hi s ≡ true → (i : ℕ) → i < length s
     → (lo ≤ get_or s i 0) × (get_or s i 0 ≤ hi)
@@ -69,25 +56,10 @@ between_at lo hi (x ∷ s) all (suc i) inside =
 
 -- ---- the same bytes
 
-pub same_differs : (s t : List ℕ) (i : ℕ) → i < length s → i < length t → (get_or s i 0 ≡ get_or t i 0 → ⊥)
-    → same_list (drop i s) (drop i t) ≡ false
+-- What `==` of two slices tells.
+pub same_is : (s t : List ℕ) → pointwise eqb s t ≡ same_list s t
 unfolding same_list
-same_differs s t i inside within differ =
-    rw (drop_step s i inside, drop_step t i within, ne_eqb (get_or s i 0) (get_or t i 0) differ)
-
-pub same_passed : (s t : List ℕ) (i : ℕ) → i < length s → i < length t → get_or s i 0 ≡ get_or t i 0
-    → same_list (drop i s) (drop i t) ≡ same_list (drop (i + 1) s) (drop (i + 1) t)
-unfolding same_list
-same_passed s t i inside within equal =
-    rw (drop_step s i inside, drop_step t i within, eq-eqb (get_or s i 0) (get_or t i 0) equal)
-
-pub same_end : (s t : List ℕ) (i : ℕ) → length s ≤ i → length t ≤ i → same_list (drop i s) (drop i t) ≡ true
-unfolding same_list
-same_end s t i past beyond = rw (drop_of_length-le s past, drop_of_length-le t beyond)
-
-pub same_only_at_one_length : (s t : List ℕ) → (length s ≡ length t → ⊥) → same_list s t ≡ false
-unfolding same_list
-same_only_at_one_length [] [] differ = absurd (differ refl)
-same_only_at_one_length [] (y ∷ t) differ = refl
-same_only_at_one_length (x ∷ s) [] differ = refl
-same_only_at_one_length (x ∷ s) (y ∷ t) differ = rw (same_only_at_one_length s t (λ e. differ (omega arith)), and-false (eqb x y))
+same_is [] [] = refl
+same_is [] (y ∷ t) = refl
+same_is (x ∷ s) [] = refl
+same_is (x ∷ s) (y ∷ t) = rw (same_is s t)

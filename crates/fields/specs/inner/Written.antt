@@ -1,6 +1,6 @@
 -- What is written is read back: a line before a line feed, a field before a comma, a number in base ten, the word of a method.
 -- Assumes nothing.
-use Rattle.std.specs.Prelude.{◌≡◌, refl, true, List, [], ◌∷◌, ◌++◌, ℕ, suc, ◌+◌, ◌-◌, ◌*◌, ◌^◌, ◌<◌, ◌≤◌, ◌/◌, ◌%◌, leb, eqb, length}
+use Rattle.std.specs.Prelude.{◌≡◌, refl, true, Some, List, [], ◌∷◌, ◌++◌, ℕ, suc, ◌+◌, ◌-◌, ◌*◌, ◌^◌, ◌<◌, ◌≤◌, ◌/◌, ◌%◌, leb, eqb, length}
 use Rattle.std.specs.Prelude.{get_or}
 use Rattle.std.proofs.Common.{ap, ◌∙◌, arith, eqb-true, eq-eqb, ne_eqb, lt-ltb, le-leb, leb-true, length-append}
 use Rattle.std.proofs.Math.Seq.{take-append_seam, drop-append-add}
@@ -20,7 +20,6 @@ use Rattle.fields.specs.Grammar.{field_of, fields_after, is_name}
 use Rattle.fields.specs.Grammar.{digit_limit, is_number, value_from, value_of, word_limit, is_method_field, first_named, method_named}
 use Rattle.fields.specs.inner.Tests.{both, neither}
 use Rattle.fields.specs.inner.Parts.{between_at}
-use Rattle.fields.specs.declared.Named.TheVariants.{Known}
 
 -- ---- a byte that parts
 
@@ -196,7 +195,7 @@ method_without_comma m =
     eqb-true (place_of comma (method_text m)) (length (method_text m))
     (every_method (λ m. eqb (place_of comma (method_text m)) (length (method_text m))) refl refl m)
 
-pub method_written : (m : Method) → method_named (method_text m) ≡ Known m
+pub method_written : (m : Method) → method_named (method_text m) ≡ Some m
 unfolding method_named first_named same_list method_text
 method_written Leximin = refl
 method_written Adams = refl

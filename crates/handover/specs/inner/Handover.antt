@@ -2,39 +2,37 @@
 -- writer cites these laws.
 -- Assumes nothing.
 use Rattle.std.specs.Prelude.{◌≡◌, refl, cond, List, ◌++◌, ℕ, ◌^◌, ◌<◌, ◌≤◌, leb, eqb, take}
-use Rattle.std.proofs.Common.{◌∙◌, zero-add, arith}
+use Rattle.std.proofs.Common.{◌∙◌, arith}
 use borrow.Author.Tests.{eq-eqb, ne_eqb, eqb-true, eqb-false, le-leb, lt-leb}
 use Rattle.std.proofs.Math.ListN.{length, drop}
 use Rattle.std.proofs.Math.Seq.{take-append_seam}
 use Rattle.apportionment.specs.Refusals.{accepted, buffer_too_short}
 use Rattle.apportionment.specs.inner.Tests.{either_way}
-use Rattle.writing.specs.inner.Writing.{Wrote, wrote_fits, AtFront, front_wrote}
+use Rattle.writing.specs.inner.Writing.{Wrote, AtFront, front_wrote}
 use Rattle.text.specs.Shared.{refusal_line}
 use Rattle.text.specs.inner.Bounds.{refusal_line_length}
-use Rattle.handover.specs.Handover.{refused, written_of, buffer_after, WritingIs, printed_of}
-use Rattle.handover.specs.declared.Written.{Written}
+use Rattle.handover.specs.Handover.{Written, refused, written_of, buffer_after, WritingIs, printed_of}
 
 -- ---- the cases
 
 -- The operation itself refuses, with this number and line.
 pub writing_refused : {number line n l : ℕ} (text before : List ℕ) → number ≡ n → line ≡ l → (n ≡ accepted → ⊥)
     → WritingIs number line text before (refused n l) before
-unfolding written_of buffer_after refused
+unfolding written_of buffer_after
 writing_refused {number} {line} {n} {l} text before told here bad =
     let test = ne_eqb n accepted bad in
     record { answer = rw (told, here, test); buffer = rw test }
 
 -- The text fits, and was copied to the front.
-pub text_fitted : {text before after : List ℕ} {next : ℕ} → Wrote before 0 text after next → length text ≤ length before
+pub text_fitted : {text before after : List ℕ} → after ≡ text ++ drop (length text) before → length text ≤ length before
     → WritingIs accepted 0 text before (record { refusal = accepted; line = 0; size = length text }) after
 unfolding written_of buffer_after
-text_fitted {text} {before} wrote fits =
-    record { answer = rw (le-leb (length text) (length before) fits); buffer = (wrote_fits wrote (omega arith)).1 ∙ rw zero-add }
+text_fitted {text} {before} copied fits = record { answer = rw (le-leb (length text) (length before) fits); buffer = copied }
 
 -- It is longer than the buffer.
 pub text_too_long : (text before : List ℕ) → length before < length text
     → WritingIs accepted 0 text before (refused buffer_too_short 0) before
-unfolding written_of buffer_after refused
+unfolding written_of buffer_after
 text_too_long text before longer = record { answer = rw (lt-leb (length text) (length before) longer); buffer = refl }
 
 -- ---- for a writer
@@ -52,7 +50,7 @@ handed_over {number} {line} {text} {page} {before} {after} {size} {r} good front
 -- A writing that was not refused: the operation itself did not refuse, and the text stands at the front of the buffer.
 pub written_unless_refused : {number line : ℕ} {text before : List ℕ} {r : Written} {after : List ℕ}
     → WritingIs number line text before r after → r.refusal ≡ accepted → (number ≡ accepted) × (take r.size after ≡ text)
-unfolding written_of buffer_after refused
+unfolding written_of buffer_after
 written_unless_refused {number} {line} {text} {before} {r} {after} is none =
     either_way (eqb number accepted)
     (λ good.
@@ -88,7 +86,7 @@ module _ {number line : ℕ} {text before : List ℕ} {r : Written} {after : Lis
 
   -- The text.
   pub text_printed : r.refusal ≡ accepted → Printed number line text before after r.size
-  unfolding printed_of buffer_after refused
+  unfolding printed_of buffer_after
   text_printed none =
       either_way (eqb number accepted)
       (λ good.
@@ -104,7 +102,7 @@ module _ {number line : ℕ} {text before : List ℕ} {r : Written} {after : Lis
   pub refusal_printed : (r.refusal ≡ accepted → ⊥) → r.refusal < 2 ^ 64 → r.line < 2 ^ 64 → 50 ≤ length before
       → {last : List ℕ} {end : ℕ} → Wrote after 0 (refusal_line r.refusal r.line) last end
       → Printed number line text before last end
-  unfolding printed_of buffer_after refused
+  unfolding printed_of buffer_after
   refusal_printed some few small enough {last} {end} wrote =
       let kept : after ≡ before = is.buffer ∙ rw (ne_eqb r.refusal accepted some) in
       either_way (eqb number accepted)

@@ -1,7 +1,7 @@
 -- What the moves ask, and that it holds again after a move.
 -- Assumes nothing.
-use Rattle.std.specs.Prelude.{◌≡◌, Bool, true, false, List, ℕ, zero, suc, ◌+◌, ◌<◌, ◌≤◌, length, get_or, set}
-use Rattle.std.proofs.Common.{◌∙◌, subst, ⊎_elim, zero-le, arith, le_refl, le_trans}
+use Rattle.std.specs.Prelude.{◌≡◌, Bool, true, false, List, ℕ, zero, suc, ◌+◌, ◌/◌, ◌<◌, ◌≤◌, length, get_or, set}
+use Rattle.std.proofs.Common.{◌∙◌, ⊎_elim, zero-le, arith, le_refl, le_trans}
 use Rattle.apportionment.specs.Limits.{house_limit}
 use Rattle.apportionment.specs.Lists.{sum}
 use Rattle.apportionment.specs.inner.Problem.{Problem}
@@ -17,11 +17,11 @@ use Rattle.claims.specs.inner.DivisorSeats.{withdrawn_at_most}
 use Rattle.claims.specs.inner.SizeClaims.{Positive, problem_positive, size_test, one_each}
 use Rattle.claims.specs.inner.SizeOrder.{size_order}
 use Rattle.claims.specs.inner.Tournament.{winner_lt, root_is_first}
-use Rattle.claims.specs.inner.TournamentReplay.{replaying_start}
+use Rattle.claims.specs.inner.TournamentReplay.{Replaying, replaying_start}
 use Rattle.leximin.specs.inner.Scan.{Bounded}
 use Rattle.leximin.specs.inner.Start.{start_bounded}
 use Rattle.leximin.specs.inner.Sided.{Side, Sided, sided_long}
-use Rattle.leximin.specs.inner.Tournament.{Champions, Moved, moves_pass}
+use Rattle.leximin.specs.inner.Tournament.{Champions, moves_before, moves_pass}
 
 -- One seat moved: placed where `up` is true, and withdrawn otherwise.
 abbrev pub moved_once : (up : Bool) (ps : List ℕ) (H : ℕ) (xs : List ℕ) → List ℕ
@@ -143,12 +143,12 @@ module _ {up : Bool} {ps xs₀ xs t : List ℕ} {P H times done : ℕ}
           after_more up one_each (size_test ps H) (length ps) xs₀ done so_far.seats
           (first_moves up one_each (size_test ps H) (length ps) xs (root ∙ first) move)
 
-      pub root_due : Sided up ps P H (set xs j v) × Moved up ps H (set xs j v) (get_or t 1 0) t
-      root_due = (
-        rw root_moved (moved_sided up m (done + 1) (omega arith)),
-        subst (λ (i : ℕ). Moved up ps H (set xs j v) i t) root
-            record { inside = root_inside; due = replaying_start so_far.winners j (order_agrees up one_each (size_test ps H) xs j v) },
-      )
+      pub root_sided : Sided up ps P H (set xs j v)
+      root_sided = rw root_moved (moved_sided up m (done + 1) (omega arith))
+
+      -- Only the way up from that state's leaf is then due.
+      pub root_due : Replaying (moves_before up ps H (set xs j v)) (length ps) ((length ps + j) / 2) t
+      root_due = replaying_start so_far.winners j (order_agrees up one_each (size_test ps H) xs j v)
 
 -- ---- moves by a scan
 

@@ -1,9 +1,7 @@
 -- The scans: the best state of those looked at is the theory's first place, so what a scan ends with is the state that moves.
 -- Assumes nothing.
-use Rattle.std.specs.Prelude.{◌≡◌, refl, Bool, cond, List, ℕ, zero, suc, ◌+◌, ◌-◌, ◌<◌, ◌≤◌, ltb, length, get_or}
-use Rattle.std.proofs.Math.Path.{sym}
-use Rattle.std.proofs.Common.{◌∙◌, arith, add-sub_cancel, sub-one}
-use Rattle.std.proofs.Math.Bool.{true, false}
+use Rattle.std.specs.Prelude.{◌≡◌, refl, Option, Some, None, Bool, cond, List, ℕ, zero, suc, ◌+◌, ◌-◌, ◌<◌, ◌≤◌, length, get_or}
+use Rattle.std.proofs.Common.{arith, add-sub_cancel, sub-one, subst, lt-ltb, le-ltb}
 use Rattle.apportionment.specs.Limits.{house_limit}
 use Rattle.apportionment.specs.Lists.{first_place}
 use Rattle.apportionment.specs.inner.Tests.{either_way}
@@ -74,41 +72,49 @@ pub record Seated (ps : List ℕ) (P H : ℕ) (xs : List ℕ) : Type 0 where
   pub bounded : Bounded ps P H xs
   pub least : (i : ℕ) → i < length ps → 1 ≤ get_or xs i 0
 
--- What is known of a state that may give up a seat: whether it has one to spare, and the claim that its last seat met.
+-- What is known of a state that may give up a seat: if it has one to spare, the claim that its last seat met.
+abbrev pub SpareIs : (p a P H : ℕ) → Option Claim → Type 0
+SpareIs p a P H None = a ≤ 1
+SpareIs p a P H (Some c) = (1 < a) × ClaimIs p (a - 1) P H c
+
 pub record GiverAt (p a P H j : ℕ) (g : Giver) : Type 0 where
   pub place : g.place ≡ j
-  pub spares : g.spares ≡ ltb 1 a
-  pub claim : ClaimIs p (a - 1) P H g.claim
+  pub spare : SpareIs p a P H g.spare
 
 abbrev pub GiverIs : (ps xs : List ℕ) (P H j : ℕ) → Giver → Type 0
 GiverIs ps xs P H j g = GiverAt (get_or ps j 0) (get_or xs j 0) P H j g
 
 unfoldable pub better_giver : Giver → Giver → Giver
 better_giver best next =
-    cond next.spares (cond best.spares (cond (less_claim next.claim best.claim) best next) next) best
+    elim next.spare
+    [ None ↦ best | Some claim ↦ elim best.spare [ None ↦ next | Some held ↦ cond (less_claim claim held) best next ] ]
 
 module _ (ps xs : List ℕ) (P H : ℕ) (problem : Problem ps P H) where
   abbrev gives : ℕ → ℕ → Bool
   gives = gives_up_before one_each (size_test ps H) xs
 
-  given_test : (i j : ℕ) {g h : Giver} → GiverIs ps xs P H i g → GiverIs ps xs P H j h
-      → less_claim g.claim h.claim ≡ size_test ps H i (get_or xs i 0 - 1) j (get_or xs j 0 - 1)
-  given_test i j gi hj = claims_compared problem i (get_or xs i 0 - 1) j (get_or xs j 0 - 1) gi.claim hj.claim
-
   giver_picks : (i j : ℕ) {best next : Giver} → GiverIs ps xs P H j best → GiverIs ps xs P H i next
-      → (s t u : Bool) → next.spares ≡ s → best.spares ≡ t → less_claim next.claim best.claim ≡ u
-      → GiverIs ps xs P H (cond (gives i j) i j) (better_giver best next)
+      → (s t : Option Claim) → next.spare ≡ s → best.spare ≡ t → GiverIs ps xs P H (cond (gives i j) i j) (better_giver best next)
   unfolding gives_up_before better_giver
-  giver_picks i j b n false t u es et eu = simp (sym n.spares ∙ es, es) b
-  giver_picks i j b n true false u es et eu = simp (sym n.spares ∙ es, es, sym b.spares ∙ et, et) n
-  giver_picks i j b n true true true es et eu =
-      simp (sym n.spares ∙ es, es, sym b.spares ∙ et, et, sym (given_test i j n b) ∙ eu, eu) b
-  giver_picks i j b n true true false es et eu =
-      simp (sym n.spares ∙ es, es, sym b.spares ∙ et, et, sym (given_test i j n b) ∙ eu, eu) n
+  giver_picks i j {best} {next} b n None t es et =
+      let none : get_or xs i 0 ≤ 1 = subst (SpareIs (get_or ps i 0) (get_or xs i 0) P H) es n.spare in
+      rw (es, le-ltb _ _ none) b
+  giver_picks i j {best} {next} b n (Some c) None es et =
+      let some = subst (SpareIs (get_or ps i 0) (get_or xs i 0) P H) es n.spare in
+      let none : get_or xs j 0 ≤ 1 = subst (SpareIs (get_or ps j 0) (get_or xs j 0) P H) et b.spare in
+      rw (es, et, lt-ltb _ _ some.0, le-ltb _ _ none) (record { place = n.place; spare = some })
+  giver_picks i j {best} {next} b n (Some c) (Some d) es et =
+      let some = subst (SpareIs (get_or ps i 0) (get_or xs i 0) P H) es n.spare in
+      let other = subst (SpareIs (get_or ps j 0) (get_or xs j 0) P H) et b.spare in
+      let same : less_claim c d ≡ size_test ps H i (get_or xs i 0 - 1) j (get_or xs j 0 - 1) =
+      claims_compared problem i (get_or xs i 0 - 1) j (get_or xs j 0 - 1) some.1 other.1 in
+      rw (es, et, lt-ltb _ _ some.0, lt-ltb _ _ other.0, ← same)
+      (either_way (less_claim c d)
+      (λ e. rw e (record { place = b.place; spare = other })) (λ e. rw e (record { place = n.place; spare = some })))
 
   pub giver_next : (i : ℕ) {best next : Giver} → 0 < i
       → GiverIs ps xs P H (first_place (gives_up_before one_each (size_test ps H) xs) (i - 1)) best → GiverIs ps xs P H i next
       → GiverIs ps xs P H (first_place (gives_up_before one_each (size_test ps H) xs) (i + 1 - 1)) (better_giver best next)
   giver_next i {best} {next} pos b n =
       rw (add-sub_cancel i 1, first_place_next gives i pos)
-      (giver_picks i (first_place gives (i - 1)) b n next.spares best.spares (less_claim next.claim best.claim) refl refl refl)
+      (giver_picks i (first_place gives (i - 1)) b n next.spare best.spare refl refl)

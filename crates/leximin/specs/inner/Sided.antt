@@ -2,6 +2,7 @@
 -- Assumes nothing.
 use Rattle.std.specs.Prelude.{◌≡◌, Bool, true, false, List, ℕ, ◌+◌, ◌-◌, ◌<◌, ◌≤◌, length, get_or}
 use Rattle.std.proofs.Common.{le_refl, arith}
+use denote.Struct.Props as logic
 use Rattle.apportionment.specs.Lists.{sum}
 use Rattle.apportionment.specs.inner.Problem.{Problem}
 use Rattle.apportionment.specs.Leximin.{nearest}
@@ -16,6 +17,13 @@ use Rattle.sizes.specs.inner.Quotients.{ClimbingClaim, FallingClaim}
 abbrev pub Side : (up : Bool) (start a : ℕ) → Type 0
 Side true start a = start ≤ a
 Side false start a = a ≤ start
+
+-- Each is one fact, so a field of a type may hold it.
+pub side_prop : (up : Bool) (start a : ℕ) → IsProp (Side up start a)
+side_prop true start a = Prim.hlevel logic.props
+side_prop false start a = Prim.hlevel logic.props
+
+pub ruleset sided_props = (logic.props, side_prop)
 
 -- Seats on their way from the start: each state's are on one side of its own.
 pub record Sided (up : Bool) (ps : List ℕ) (P H : ℕ) (xs : List ℕ) : Type 0 where

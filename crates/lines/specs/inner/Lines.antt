@@ -1,7 +1,7 @@
 -- What holds of a line of the register that is not refused, and the refusals of a head and of a state's line by the parts that the code
 -- has.
 -- Assumes nothing.
-use Rattle.std.specs.Prelude.{◌≡◌, refl, ◌&&◌, Bool, true, false, cond, not, List, [], ◌∷◌, ℕ, ◌+◌, ◌≤◌, ltb, eqb}
+use Rattle.std.specs.Prelude.{◌≡◌, refl, ◌&&◌, Bool, true, false, cond, not, List, [], ◌∷◌, Option, ℕ, ◌+◌, ◌≤◌, ltb, eqb}
 use Rattle.std.proofs.Common.{arith, eqb-true, ltb-false}
 use Rattle.std.proofs.lemmas.Bool.{eqb-false, not-false}
 use Rattle.apportionment.specs.Limits.{state_limit, house_limit, sum_limit}
@@ -11,13 +11,12 @@ use Rattle.apportionment.specs.inner.Checks.{inside_limits, check_passed}
 use Rattle.apportionment.specs.inner.Tests.{either_way}
 use Rattle.apportionment.specs.Lists.{same_list}
 use Rattle.apportionment.specs.Text.{bytes_of}
-use Rattle.fields.specs.declared.Named.{Named}
+use Rattle.apportionment.specs.declared.Method.{Method}
 use Rattle.fields.specs.inner.Tests.{both}
 use Rattle.fields.specs.Grammar.{ended, line_of, field_of, is_number, value_of, is_name, is_method_field, method_named}
 use Rattle.lines.specs.Lines.{method_field, house_field, count_field, head_formed, is_head, is_unknown}
-use Rattle.lines.specs.Lines.{head_refusal, head_refused, head_read, head_of}
+use Rattle.lines.specs.Lines.{HeadOutcome, head_refusal, head_refused, head_read, head_of}
 use Rattle.lines.specs.Lines.{name_at, number_field, number_at, pair_formed, used_in, is_state_line, is_closing_line, state_refusal}
-use Rattle.lines.specs.declared.head.Head.{Head}
 
 -- ---- tests made at once are tests made one after the other
 
@@ -51,7 +50,7 @@ head_numbers s head =
     both (is_number (house_field s)) _ (both (is_method_field (method_field s)) _ word).1
 
 -- What a well-formed head says: 4 for an unknown method, then 3 for a house or a count outside its limits.
-unfoldable pub head_says : Named → (house states : ℕ) → Head
+unfoldable pub head_says : Option Method → (house states : ℕ) → HeadOutcome
 head_says named house states =
     cond (is_unknown named) (head_refused method_unknown)
     (cond (outside house_limit house) (head_refused number_out_of_limits)
@@ -68,7 +67,7 @@ head_by_parts s =
     (outside state_limit (value_of (count_field s)))
     (head_read (method_named (method_field s)) (value_of (house_field s)) (value_of (count_field s)))
   where
-    by_tests : (t u v w : Bool) (read : Head)
+    by_tests : (t u v w : Bool) (read : HeadOutcome)
         → (let refusal = cond (not t) line_ill_formed (cond u method_unknown (cond v number_out_of_limits
         (cond w number_out_of_limits accepted))) in
         cond (eqb refusal accepted) read (head_refused refusal))
@@ -81,11 +80,11 @@ head_by_parts s =
     by_tests true false false false read = refl
 
 -- What a head that is not refused says is within its limits.
-pub record HeadSound (head : Head) : Type 0 where
+pub record HeadSound (head : HeadOutcome) : Type 0 where
   pub house : (1 ≤ head.house) × (head.house ≤ house_limit)
   pub states : (1 ≤ head.states) × (head.states ≤ state_limit)
 
-abbrev read_of : List ℕ → Head
+abbrev read_of : List ℕ → HeadOutcome
 read_of s = head_read (method_named (method_field s)) (value_of (house_field s)) (value_of (count_field s))
 
 pub head_sound : (s : List ℕ) → (head_of s).refusal ≡ accepted → HeadSound (head_of s)

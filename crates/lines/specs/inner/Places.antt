@@ -5,7 +5,7 @@
 use Rattle.std.specs.Prelude.{◌≡◌, refl, Bool, true, false, List, [], ◌∷◌, ℕ, zero, suc, ◌+◌, ◌-◌, ◌<◌, ◌≤◌, leb, eqb, length, get_or}
 use Rattle.std.specs.Prelude.{take, drop}
 use Rattle.std.proofs.Common.{sym, ap, ◌∙◌, true≢false, zero-le, suc-le-suc, le_refl, le_trans, arith, leb-true, leb-false, length-drop}
-use Rattle.std.proofs.Common.{drop_of_length-le, take-take, drop-drop, length-take-le, get_or-take}
+use Rattle.std.proofs.Common.{drop_of_length-le, take-take, drop-drop}
 use Rattle.apportionment.specs.Limits.{state_limit}
 use Rattle.apportionment.specs.Lists.{same_list}
 use Rattle.apportionment.specs.inner.Lists.{same_list_equal}
@@ -14,6 +14,7 @@ use Rattle.fields.specs.Grammar.{place_of, before, after}
 use Rattle.fields.specs.Grammar.{line_feed, comma, rest_of, line_of, last_byte, carriage_return, without_return, field_of}
 use Rattle.lines.specs.Lines.{name_at, used_in}
 use Rattle.lines.specs.inner.Fingerprints.{fingerprint_of, holds, holds_not}
+use Rattle.lines.specs.declared.NamePlace.{NamePlace}
 
 -- ---- a name is the front of its line
 
@@ -107,29 +108,31 @@ pub record Stands (s name : List ℕ) (a e : ℕ) : Type 0 where
   pub inside : e ≤ length s
   pub there : part_of s a e ≡ name
 
--- What stands there has this fingerprint.
-pub record Printed (s : List ℕ) (a e print : ℕ) : Type 0 where
-  pub ordered : a ≤ e
-  pub inside : e ≤ length s
-  pub printed : print ≡ fingerprint_of (part_of s a e)
+-- A place lies within the bytes.
+pub record Within (s : List ℕ) (place : NamePlace) : Type 0 where
+  pub ordered : place.start ≤ place.end
+  pub inside : place.end ≤ length s
 
--- The first k places of two lists hold the starts and the ends of the names on the k lines from `first` on.
-pub record NamesAt (k : ℕ) (first starts ends : List ℕ) : Type 0 where
+-- What is read past the end of a list of places.
+abbrev pub no_place : NamePlace
+no_place = record { start = 0; end = 0 }
+
+-- The place of the name with a number holds the name on that line, counted from 0 from `first` on.
+abbrev pub StandsAt : (first : List ℕ) (places : List NamePlace) (i : ℕ) → Type 0
+StandsAt first places i =
+    Stands first (name_on i first) (get_or places i no_place).start (get_or places i no_place).end
+
+-- The first k of a list of places hold the names on the k lines from `first` on.
+pub record NamesAt (k : ℕ) (first : List ℕ) (places : List NamePlace) : Type 0 where
   pub few : k ≤ state_limit
-  pub room : (length starts ≡ state_limit) × (length ends ≡ state_limit)
-  pub each : (i : ℕ) → i < k → Stands first (name_on i first) (get_or starts i 0) (get_or ends i 0)
+  pub room : length places ≡ state_limit
+  pub each : (i : ℕ) → i < k → StandsAt first places i
 
--- The first k places of a third list hold their fingerprints.
-pub record NamesKept (k : ℕ) (first prints starts ends : List ℕ) : Type 0 where
-  pub places : NamesAt k first starts ends
-  pub room : length prints ≡ state_limit
-  pub printed : (i : ℕ) → i < k → get_or prints i 0 ≡ fingerprint_of (name_on i first)
-
-pub kept_printed : {k : ℕ} {first prints starts ends : List ℕ} → NamesKept k first prints starts ends
-    → (i : ℕ) → i < k → Printed first (get_or starts i 0) (get_or ends i 0) (get_or prints i 0)
-kept_printed kept i below =
-    let name = kept.places.each i below in
-    record { ordered = name.ordered; inside = name.inside; printed = rw name.there (kept.printed i below) }
+-- As many names as there are fingerprints, each with its own and with its place.
+pub record NamesKept (first prints : List ℕ) (places : List NamePlace) : Type 0 where
+  pub paired : length places ≡ length prints
+  pub each : (i : ℕ) → i < length prints → StandsAt first places i
+  pub printed : (i : ℕ) → i < length prints → get_or prints i 0 ≡ fingerprint_of (name_on i first)
 
 -- Names of different fingerprints differ.
 pub other_fingerprint : (xs ys : List ℕ) → (fingerprint_of xs ≡ fingerprint_of ys → ⊥) → same_list xs ys ≡ false
@@ -160,12 +163,10 @@ used_on_none (suc k) s name none =
     rw (none 0 (omega arith)) (used_on_none k (rest_of s) name (λ i below. none (suc i) (omega arith)))
 
 -- A name whose fingerprint is not among those kept is on none of the lines.
-pub unused_without_fingerprint : {k : ℕ} {first prints starts ends : List ℕ} {print : ℕ} (name : List ℕ)
-    → NamesKept k first prints starts ends → print ≡ fingerprint_of name → holds print (take k prints) ≡ false
-    → used_in k first name ≡ false
-unused_without_fingerprint {k} {first} {prints} {starts} {ends} {print} name kept its none =
-    let all : length (take k prints) ≡ k = length-take-le k prints (omega (arith, kept.places.few, kept.room)) in
-    used_on_none k first name
+pub unused_without_fingerprint : {first prints : List ℕ} {places : List NamePlace} {print : ℕ} (name : List ℕ)
+    → NamesKept first prints places → print ≡ fingerprint_of name → holds print prints ≡ false
+    → used_in (length prints) first name ≡ false
+unused_without_fingerprint {first} {prints} {places} {print} name kept its none =
+    used_on_none (length prints) first name
     (λ i below. other_fingerprint (name_on i first) name
-    (λ equal. holds_not print (take k prints) none i (omega arith)
-    (get_or-take k prints i 0 below ∙ kept.printed i below ∙ equal ∙ sym its)))
+    (λ equal. holds_not print prints none i below (kept.printed i below ∙ equal ∙ sym its)))

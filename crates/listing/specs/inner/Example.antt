@@ -14,7 +14,7 @@ use Rattle.apportionment.specs.Allotment.{problem_checks, allot_refusal, seats_o
 use Rattle.register.specs.Register.{reading_of}
 use Rattle.register.specs.Register.{name_of}
 use Rattle.register.specs.inner.Examples.{example, example_reading, example_name, examples_hold, example_named}
-use Rattle.register.specs.declared.Reading.{Reading}
+use Rattle.register.specs.Register.{ReadingOutcome}
 use Rattle.apportionment.specs.Methods.{method_text}
 use Rattle.text.specs.Shared.{numbers_text, head_line, total_line}
 use Rattle.handover.specs.Handover.{printed_of}
@@ -44,12 +44,12 @@ listing_laid_out = refl
 listing_is : listing_of example ≡ example_listing
 unfolding listing_of
 listing_is =
-    ap (λ (r : Reading). listing_in r (name_of example) (seats_in r)) examples_hold.0
+    ap (λ (r : ReadingOutcome). listing_in r (name_of example) (seats_in r)) examples_hold.0
     ∙ same_listing (name_of example) example_name example_reading (seats_in example_reading) example_named
     ∙ listing_laid_out
 
 -- .. which is not refused, so that the program prints it.
-printed_by_parts : (r : Reading) (text : List ℕ) → r ≡ example_reading → text ≡ example_listing
+printed_by_parts : (r : ReadingOutcome) (text : List ℕ) → r ≡ example_reading → text ≡ example_listing
     → printed_of (list_refusal_in r) r.line text ≡ example_listing
 unfolding printed_of list_refusal_in sum within outside first_refusal states_outside house_outside has_zero sum_outside list_misfits
     seats_too_few problem_checks allot_refusal

@@ -1,22 +1,24 @@
 -- What writing a listing comes to in each of its cases, and why every listing fits the array in which it is first written: what neither
 -- reading nor allotting refuses is within every limit.
 -- Assumes nothing.
-use Rattle.std.specs.Prelude.{◌≡◌, refl, List, ℕ, ◌<◌, ◌≤◌, eqb, length, get_or}
+use Rattle.std.specs.Prelude.{◌≡◌, List, ℕ, ◌<◌, ◌≤◌, eqb, length, get_or, Result, Ok, Err}
 use Rattle.std.proofs.Common.{sym, ap, ◌∙◌, arith, length-take-le}
-use borrow.Author.Tests.{eq-eqb, ne_eqb, eqb-true, eqb-false}
+use borrow.Author.Tests.{eq-eqb, eqb-true, eqb-false}
 use Rattle.apportionment.specs.inner.Tests.{either_way}
-use Rattle.apportionment.specs.Refusals.{accepted}
+use Rattle.apportionment.specs.Refusals.{accepted, refusal_number, refusal_of}
+use Rattle.apportionment.specs.inner.Checks.{refusal_has_number}
 use Rattle.apportionment.specs.inner.Lists.{entry_at_most_sum}
 use Rattle.apportionment.specs.Allotment.{allot_refusal, seats_after}
 use Rattle.problem.specs.inner.Passed.{Allottable, allot_passed}
-use Rattle.allot.specs.declared.Allotted.{Allotted}
+use Rattle.apportionment.specs.declared.refusals.Refusal.{Refusal}
 use Rattle.allot.specs.Allot.{AllotmentIs}
 use Rattle.departure.specs.inner.Answer.{InLimits}
-use Rattle.handover.specs.Handover.{refused, WritingIs}
+use Rattle.handover.specs.Handover.{refused, written_in, WritingIs}
 use Rattle.handover.specs.inner.Handover.{writing_refused}
-use Rattle.handover.specs.declared.Written.{Written}
-use Rattle.register.specs.Register.{reading_of, populations_in}
-use Rattle.register.specs.declared.Reading.{Reading}
+use Rattle.handover.specs.Handover.{Written}
+use Rattle.apportionment.specs.declared.refusals.Refused.{Refused}
+use Rattle.register.specs.Register.{reading_of, reading_outcome, populations_in, refused as reading_failed}
+use Rattle.register.specs.Register.{ReadingOutcome}
 use Rattle.register.specs.Register.{rows_of, name_in_row}
 use Rattle.register.specs.inner.Sound.{ReadingSound, reading_sound, reading_lined, GoodReading}
 use Rattle.register.specs.inner.Rows.{name_limited}
@@ -28,7 +30,7 @@ use Rattle.listing.specs.inner.Room.{AllListable, listing_room, listing_has_room
 -- ---- what is not refused may be listed
 
 -- Allotting's refusal of what was read.
-abbrev allot_refusal_in : Reading → ℕ
+abbrev allot_refusal_in : ReadingOutcome → ℕ
 allot_refusal_in r = allot_refusal r.method r.house (populations_in r) r.states
 
 module _ (s : List ℕ) (good : (reading_of s).refusal ≡ accepted) (allotted : allot_refusal_in (reading_of s) ≡ accepted) where
@@ -86,11 +88,12 @@ module _ (s : List ℕ) (good : (reading_of s).refusal ≡ accepted) (allotted :
 -- ---- the cases
 
 -- A refusal of reading, with its line.
-pub reading_refused : (s before : List ℕ) → ((reading_of s).refusal ≡ accepted → ⊥)
-    → ListingIs s before (refused (reading_of s).refusal (reading_of s).line) before
-unfolding list_refusal_in
-reading_refused s before bad =
-    writing_refused (listing_of s) before (rw (ne_eqb (reading_of s).refusal accepted bad)) refl bad
+pub reading_refused : (s before : List ℕ) (e : Refused) → reading_outcome (Err e) ≡ reading_of s
+    → ListingIs s before (written_in (Err e)) before
+unfolding list_refusal_in reading_failed
+reading_refused s before e told =
+    writing_refused (listing_of s) before (rw (← told, refusal_has_number e.refusal)) (rw (← told))
+    (eqb-false _ _ (refusal_has_number e.refusal))
 
 -- Where reading does not refuse, allotting's refusal decides.
 allotting_decides : (s : List ℕ) → (reading_of s).refusal ≡ accepted → list_refusal_in (reading_of s) ≡ allot_refusal_in (reading_of s)
@@ -108,35 +111,36 @@ listing_in_page s enough none =
 
 -- ---- reading and allotting, as the code has them
 
-module _ {s : List ℕ} {r : Reading} (read : GoodReading s r) {before after : List ℕ} {a : Allotted} (each : length before ≡ r.states)
-    (allotted : AllotmentIs r.method r.house (populations_in r) before after a) where
-  refusal_told : a.refusal ≡ allot_refusal_in r
-  refusal_told = ap (λ (x : Allotted). x.refusal) allotted.outcome ∙ rw each
+told_good : {s : List ℕ} {r : ReadingOutcome} → GoodReading s r → (reading_of s).refusal ≡ accepted
+told_good read = rw read.reading at read.good
 
-  told_good : (reading_of s).refusal ≡ accepted
-  told_good = rw read.reading at read.good
+module _ {s : List ℕ} {r : ReadingOutcome} (read : GoodReading s r) {before after : List ℕ} (each : length before ≡ r.states) where
+  refusal_told : {a : Result ℕ Refusal} → AllotmentIs r.method r.house (populations_in r) before after a → refusal_of a ≡ allot_refusal_in r
+  refusal_told allotted = allotted.refusal ∙ rw each
 
   -- Allotting refuses.
-  pub told_refused : (buffer : List ℕ) → (a.refusal ≡ accepted → ⊥) → ListingIs s buffer (refused a.refusal 0) buffer
-  told_refused buffer bad =
-      writing_refused (listing_of s) buffer (allotting_decides s told_good ∙ sym (refusal_told ∙ ap allot_refusal_in read.reading))
-      (reading_lined s told_good) bad
+  pub told_refused : {refusal : Refusal} → AllotmentIs r.method r.house (populations_in r) before after (Err refusal)
+      → (buffer : List ℕ) → ListingIs s buffer (refused (refusal_number refusal) 0) buffer
+  told_refused {refusal} allotted buffer =
+      writing_refused (listing_of s) buffer
+      (allotting_decides s (told_good read) ∙ sym (refusal_told allotted ∙ ap allot_refusal_in read.reading))
+      (reading_lined s (told_good read)) (eqb-false _ _ (refusal_has_number refusal))
 
-  module _ (none : a.refusal ≡ accepted) where
+  module _ {steps : ℕ} (allotted : AllotmentIs r.method r.house (populations_in r) before after (Ok steps)) where
     told_accepted : allot_refusal_in (reading_of s) ≡ accepted
-    told_accepted = rw read.reading at (sym refusal_told ∙ none)
+    told_accepted = rw read.reading at (sym (refusal_told allotted))
 
     told_seats : after ≡ seats_in r
     unfolding seats_in seats_after
-    told_seats = allotted.seats ∙ rw (each, eq-eqb _ _ (sym refusal_told ∙ none))
+    told_seats = allotted.seats ∙ rw (each, eq-eqb _ _ (sym (refusal_told allotted)))
 
     -- What it allots may be listed ..
     pub told_listable : {rows : List ℕ} → rows ≡ rows_of s → AllListable r (name_in_row rows) after
-    told_listable at_rows = rw (told_seats, at_rows, read.reading) (register_listable s told_good told_accepted)
+    told_listable at_rows = rw (told_seats, at_rows, read.reading) (register_listable s (told_good read) told_accepted)
 
     -- .. and handed over.
     pub told_listed : {rows : List ℕ} → rows ≡ rows_of s → {buffer : List ℕ} {x : Written} {later : List ℕ}
         → WritingIs accepted 0 (listing_in r (name_in_row rows) after) buffer x later → ListingIs s buffer x later
     told_listed at_rows over =
-        rw (allotting_decides s told_good, told_accepted, reading_lined s told_good, listing_by_rows s told_good)
+        rw (allotting_decides s (told_good read), told_accepted, reading_lined s (told_good read), listing_by_rows s (told_good read))
         (rw (told_seats, at_rows, read.reading) at over)

@@ -12,7 +12,7 @@ use Rattle.text.specs.inner.Bounds.{decimal_of_sum, decimal_of_house, mark_lengt
 use Rattle.text.specs.inner.Bounds.{numbers_length, head_line_length, total_line_length}
 use Rattle.text.specs.inner.Departures.{departure_length}
 use Rattle.register.specs.Register.{populations_in}
-use Rattle.register.specs.declared.Reading.{Reading}
+use Rattle.register.specs.Register.{ReadingOutcome}
 use Rattle.departure.specs.inner.Answer.{InLimits, AllInLimits}
 use Rattle.listing.specs.Listing.{state_line, state_lines, listing_in}
 
@@ -59,7 +59,7 @@ state_lines_length name ps seats P H k short each =
 -- ---- the listing
 
 -- What was read may be listed with these names and seats: every number is within its limits, and no state's departure is refused.
-pub record AllListable (r : Reading) (name : ℕ → List ℕ) (seats : List ℕ) : Type 0 where
+pub record AllListable (r : ReadingOutcome) (name : ℕ → List ℕ) (seats : List ℕ) : Type 0 where
   pub few_states_lem : r.states ≤ state_limit
   pub house_limited : r.house ≤ house_limit
   pub total_limited : r.total ≤ sum_limit
@@ -69,13 +69,13 @@ pub record AllListable (r : Reading) (name : ℕ → List ℕ) (seats : List ℕ
   pub short_names : (i : ℕ) → i < r.states → length (name i) ≤ name_limit
   pub each_in_limits : (i : ℕ) → i < r.states → InLimits (get_or (populations_in r) i 0) (get_or seats i 0) r.total r.house
 
-pub listable_rows : {r : Reading} {name : ℕ → List ℕ} {seats : List ℕ} → AllListable r name seats
+pub listable_rows : {r : ReadingOutcome} {name : ℕ → List ℕ} {seats : List ℕ} → AllListable r name seats
     → AllInLimits (populations_in r) seats r.total r.house
 listable_rows {r} fit =
     let counted : length (populations_in r) ≡ r.states = length-take-le r.states r.populations fit.each_read in
     record { paired = fit.each_seated ∙ sym counted; each = λ i below. fit.each_in_limits i (omega arith) }
 
-pub listing_has_room : {r : Reading} {name : ℕ → List ℕ} {seats : List ℕ} → AllListable r name seats
+pub listing_has_room : {r : ReadingOutcome} {name : ℕ → List ℕ} {seats : List ℕ} → AllListable r name seats
     → length (listing_in r name seats) ≤ listing_room
 unfolding listing_in
 listing_has_room {r} {name} {seats} fit =

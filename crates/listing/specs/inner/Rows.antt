@@ -6,7 +6,7 @@ use Rattle.apportionment.specs.Refusals.{accepted}
 use Rattle.register.specs.Register.{reading_of, populations_in}
 use Rattle.register.specs.Register.{rows_of, name_in_row, name_of}
 use Rattle.register.specs.inner.Sound.{name_there}
-use Rattle.register.specs.declared.Reading.{Reading}
+use Rattle.register.specs.Register.{ReadingOutcome}
 use Rattle.listing.specs.Listing.{state_line, state_lines, seats_in, listing_in, listing_of}
 
 -- One state more.
@@ -24,7 +24,7 @@ same_names f g ps seats P H (suc k) same =
     rw (same_names f g ps seats P H k (λ i below. same i (omega arith)), same k (omega arith))
 
 -- .. and the same listing.
-pub same_listing : (f g : ℕ → List ℕ) (r : Reading) (seats : List ℕ) → ((i : ℕ) → i < r.states → f i ≡ g i)
+pub same_listing : (f g : ℕ → List ℕ) (r : ReadingOutcome) (seats : List ℕ) → ((i : ℕ) → i < r.states → f i ≡ g i)
     → listing_in r f seats ≡ listing_in r g seats
 unfolding listing_in
 same_listing f g r seats same = rw (same_names f g (populations_in r) seats r.total r.house r.states same)

@@ -4,7 +4,3 @@ use Rattle.placing.proofs.move_towards.Goals as goal
 
 pub returns-then-times-eq0 : goal.returns-then-times-eq0
 returns-then-times-eq0 c = rw c.if-times-eq0.true (after_none _ _ _ _ _)
-
-pub move_times-requires : goal.move_times-requires
-move_times-requires c =
-    rw c.total_of-sum.ensures (c.requires c.if-times-eq0.false)

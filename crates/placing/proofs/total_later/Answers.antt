@@ -1,6 +1,5 @@
--- `placing::total_later` meets its contract: no more seats are moved than lie between the total and the house.
-use native.Mathlib.Omega.{arith}
-use borrow.Author.Tests.{lt-ltb, le-ltb}
+-- `total_later` meets its contract: no more seats are moved than lie between the total and the house.
+use Rattle.std.proofs.Common.{arith, lt-ltb, le-ltb}
 use Rattle.apportionment.specs.Quantities.{distance}
 use Rattle.placing.proofs.total_later.Goals as goal
 
@@ -15,5 +14,5 @@ pub overflow_sub-result : goal.overflow_sub-result
 unfolding distance
 overflow_sub-result c = omega (arith, c.requires, c.if-total-house.false)
 
-pub returns : goal.returns
-returns c = rw (le-ltb _ _ c.if-total-house.false)
+pub returns-else-total-house : goal.returns-else-total-house
+returns-else-total-house c = rw (le-ltb _ _ c.if-total-house.false)

@@ -1,21 +1,19 @@
-use mathlib.Core.Path.{sym}
-use Prim.Native.Nat.{ℕ, ◌<◌}
-use native.Mathlib.Omega.{arith}
-use lib.ListN.{length}
-use borrow.Author.Count.{below_more}
-use borrow.Author.Rules.{rules}
-use Rattle.problem.specs.inner.Populations.{zero_is_found, none_is_zero}
+-- `problem::has_zero` meets its contract: `contains` tests one population after another, as the definition does.
+use Rattle.std.proofs.Common.{◌≡◌, refl, ◌∙◌, eqb, ℕ, Bool, true, false, cond, ◌||◌}
+use Rattle.std.specs.List.{list_any}
+use Rattle.std.proofs.lemmas.List.Recursion.{same_from_clauses}
+use Rattle.apportionment.specs.Allotment.{has_zero}
 use Rattle.problem.proofs.has_zero.Goals as goal
 
-pub returns-then-populations-i-eq0 : goal.returns-then-populations-i-eq0
-returns-then-populations-i-eq0 c =
-    let ps = c.args.populations.now in
-    sym (zero_is_found ps c.loop-i.i c.loop-i-test.true c.if-populations-i-eq0.true)
-
-pub loop-i-preserved : goal.loop-i-preserved
-loop-i-preserved c = (search rules, below_more _ _ c.loop-i.invariant.1 c.if-populations-i-eq0.false)
+either : (b rest : Bool) → (b || rest) ≡ cond b true rest
+either true rest = refl
+either false rest = refl
 
 pub returns : goal.returns
+unfolding has_zero
 returns c =
-    let ps = c.args.populations.now in
-    sym (none_is_zero ps (λ (k : ℕ) (h : k < length ps). c.loop-i.invariant.1 k (omega arith)))
+    c.contains.ensures.value
+    ∙ same_from_clauses (list_any (λ p. eqb p 0)) has_zero (λ (p : ℕ) (rest : Bool). cond (eqb p 0) true rest) refl
+    (λ p ps. either (eqb p 0) (list_any (λ q. eqb q 0) ps))
+    (λ _ _. refl)
+    c.args.populations.now

@@ -2,7 +2,7 @@
 -- them, and so may whoever adds up populations.
 -- Assumes nothing.
 use Rattle.std.specs.Prelude.{◌≡◌, refl, Bool, true, false, List, [], ◌∷◌, ℕ, zero, suc, ◌+◌, ◌≤◌, ◌<◌, eqb, length, get_or, drop}
-use Rattle.std.proofs.Common.{arith, add-one, drop_of_length-le, drop-cons, eq-eqb, ne_eqb}
+use Rattle.std.proofs.Common.{arith, add-one, drop_of_length-le, drop-cons, eq-eqb}
 use Rattle.apportionment.specs.Lists.{sum}
 use Rattle.apportionment.specs.inner.Tests.{cond_both}
 use Rattle.apportionment.specs.Allotment.{has_zero}
@@ -16,13 +16,6 @@ zero_is_found [] i h e = absurd (omega arith)
 zero_is_found (p ∷ ps) zero h e = simp (eq-eqb p 0 e)
 zero_is_found (p ∷ ps) (suc i) h e =
     cond_both (λ (b : Bool). b ≡ true) (eqb p 0) true (has_zero ps) (λ _. refl) (λ _. zero_is_found ps i (omega arith) e)
-
--- Where no place has a population of 0, none is found.
-pub none_is_zero : (ps : List ℕ) → ((i : ℕ) → i < length ps → get_or ps i 0 ≡ 0 → ⊥) → has_zero ps ≡ false
-unfolding has_zero
-none_is_zero [] h = refl
-none_is_zero (p ∷ ps) h =
-    simp (ne_eqb p 0 (h 0 (omega arith)), none_is_zero ps (λ (i : ℕ) (l : i < length ps). h (suc i) (omega arith)))
 
 -- Where none is found, each place has a population above 0.
 pub each_is_peopled : (ps : List ℕ) → has_zero ps ≡ false → (i : ℕ) → i < length ps → 0 < get_or ps i 0

@@ -3,20 +3,20 @@ use native.Mathlib.Omega.{arith}
 use lib.ListN.{length-take}
 use Rattle.quota.proofs.fill_counted.Goals as goal
 
-pub slice_bounds-fill_with_room-end : goal.slice_bounds-fill_with_room-end
-slice_bounds-fill_with_room-end c =
+pub slice_bounds-outside-end : goal.slice_bounds-outside-end
+slice_bounds-outside-end c =
     simp length-take (omega (arith, c.requires.fillable.problem.states.states_within))
 
-pub slice_bounds-fill_with_room-end-2 : goal.slice_bounds-fill_with_room-end-2
-slice_bounds-fill_with_room-end-2 c =
+pub slice_bounds-outside-end-2 : goal.slice_bounds-outside-end-2
+slice_bounds-outside-end-2 c =
     simp length-take (omega (arith, c.requires.fillable.problem.states.states_within))
 
-pub slice_bounds-fill_with_room-end-3 : goal.slice_bounds-fill_with_room-end-3
-slice_bounds-fill_with_room-end-3 c =
+pub slice_bounds-waiting-end : goal.slice_bounds-waiting-end
+slice_bounds-waiting-end c =
     simp length-take (omega (arith, c.requires.fillable.problem.states.states_within))
 
-pub slice_bounds-fill_with_room-end-4 : goal.slice_bounds-fill_with_room-end-4
-slice_bounds-fill_with_room-end-4 c =
+pub slice_bounds-waiting-end-2 : goal.slice_bounds-waiting-end-2
+slice_bounds-waiting-end-2 c =
     simp length-take (omega (arith, c.requires.fillable.problem.states.states_within))
 
 pub fill_with_room-requires : goal.fill_with_room-requires

@@ -14,17 +14,18 @@ mark_all-requires c =
 pub play-requires : goal.play-requires
 play-requires c =
     can_play c.requires.fillable.problem c.requires.room (outer_of c.args.populations.now c.args.house)
-    c.args.arrivals.now c.fill_outers.ensures c.requires.room.arrivals_long
+    c.args.outside.now.tree.now c.fill_outers.ensures c.requires.room.arrivals_long
 
 pub play-requires-2 : goal.play-requires-2
 play-requires-2 c =
     can_play c.requires.fillable.problem c.requires.room (first_key_of c.args.populations.now c.args.house)
-    c.args.ranking.now c.fill_keys.ensures c.requires.room.ranking_long
+    c.args.waiting.now.tree.now c.fill_keys.ensures c.requires.room.ranking_long
 
 pub serve-requires : goal.serve-requires
 serve-requires c =
     all_started c.requires.fillable.problem c.requires.room c.fill_wholes.ensures c.mark_all.ensures
-    c.fill_outers.ensures c.fill_keys.ensures c.play.ensures c.play-2.ensures
+    (c.play.ensures.keys_after ∙ c.fill_outers.ensures) (c.play-2.ensures.keys_after ∙ c.fill_keys.ensures)
+    c.play.ensures.played c.play-2.ensures.played
 
 pub shape_of-due : goal.shape_of-due
 shape_of-due c =

@@ -1,18 +1,17 @@
 -- `name` goes to the state's line, of which it lends the first field.
-use mathlib.Core.Path.{◌∙◌}
-use borrow.Author.Tests.{eq-eqb, ne_eqb}
-use Rattle.register.specs.Register.{name_of}
+use Rattle.std.proofs.Common.{◌≡◌, ap, ◌∙◌, false, eqb}
+use Rattle.apportionment.specs.Refusals.{accepted}
+use Rattle.apportionment.specs.inner.Checks.{refusal_has_number}
+use Rattle.register.specs.Register.{RefusalTold, name_of, name_refusal_of}
 use Rattle.register.proofs.name.Goals as goal
 
-pub returns-then-refusal-ne0 : goal.returns-then-refusal-ne0
+pub returns-in-Ok : goal.returns-in-Ok
 unfolding name_of
-returns-then-refusal-ne0 c = rw (rw c.name_refusal-refusal.ensures at (ne_eqb _ _ c.if-refusal-ne0.true))
+returns-in-Ok c = c.name_on.ensures ∙ rw (c.of.ensures, ← c.in-Ok.ensures)
 
-pub returns : goal.returns
+pub returns-in-Err : goal.returns-in-Err
 unfolding name_of
-returns c =
-    c.name_on.ensures
-    ∙ rw (
-      c.of.ensures,
-      rw c.name_refusal-refusal.ensures at (eq-eqb _ _ c.if-refusal-ne0.false),
-    )
+returns-in-Err c =
+    let some : eqb (name_refusal_of c.args.bytes.now c.args.place).number accepted ≡ false =
+    rw (ap (λ (t : RefusalTold). t.number) c.in-Err.ensures) at (refusal_has_number c.in-Err.field-0.refusal) in
+    rw some

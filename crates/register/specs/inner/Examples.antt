@@ -20,7 +20,7 @@ use Rattle.lines.specs.Lines.{is_unknown, method_in, head_refusal, head_read}
 use Rattle.register.specs.Register.{no_populations, refused, accepts, end_of, closing_of, states_from, states_of, lines_of, reading_of}
 use Rattle.register.specs.Register.{rows_of, lines_after, name_in_row, name_refusal_in, name_refusal_of, name_of}
 use Rattle.register.specs.inner.Sound.{name_there}
-use Rattle.register.specs.declared.Reading.{Reading}
+use Rattle.register.specs.Register.{ReadingOutcome}
 
 -- Lines that end in LF, as bytes.
 abbrev pub lines_ended : List (List ℕ) → List ℕ
@@ -47,7 +47,7 @@ zero_population =
     (bytes_of "register,leximin,20,2" ∷ bytes_of "A,26" ∷ bytes_of "B,0" ∷ bytes_of "total,27" ∷ [])
 
 -- The example as it is read.
-abbrev pub example_reading : Reading
+abbrev pub example_reading : ReadingOutcome
 example_reading = record {
   refusal = accepted;
   line = 0;
@@ -91,5 +91,5 @@ example_in_row (suc (suc (suc (suc (suc i))))) below = absurd (omega arith)
 
 pub example_named : (i : ℕ) → i < example_reading.states → name_of example i ≡ example_name i
 example_named i below =
-    name_there example i (ap (λ (r : Reading). r.refusal) examples_hold.0) (rw examples_hold.0 below)
+    name_there example i (ap (λ (r : ReadingOutcome). r.refusal) examples_hold.0) (rw examples_hold.0 below)
     ∙ example_in_row i below

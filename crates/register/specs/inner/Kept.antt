@@ -1,14 +1,16 @@
--- The names read so far, kept in three lists as the lines are read: the fingerprint of each, and where it starts and ends.
+-- The names read so far, kept in two lists as the lines are read: the fingerprint of each, and where it stands.
 -- Cited by the proof of reading.
 -- Assumes nothing.
 use Rattle.std.specs.Prelude.{◌≡◌, refl, List, ℕ, zero, suc, ◌+◌, ◌-◌, ◌<◌, ◌≤◌, length, get_or, set, take, drop, replicate}
-use Rattle.std.proofs.Common.{sym, ap, ◌∙◌, add-one, arith, below_more, length-set, get_or-set_same, get_or-set_other}
+use Rattle.std.proofs.Common.{sym, ap, ◌∙◌, add-one, arith, below_more, length-set, get_or-set_same, get_or-set_other, length-take-le}
+use Rattle.std.proofs.Common.{get_or-take}
 use Rattle.apportionment.specs.Limits.{state_limit}
 use Rattle.fields.specs.Grammar.{rest_of}
 use Rattle.lines.specs.Lines.{name_at}
 use Rattle.lines.specs.inner.Fingerprints.{fingerprint_of}
-use Rattle.lines.specs.inner.Places.{EndOf, drop_is_end, end_of_end, rest_is_end, name_is_front, name_on, part_of, Stands, NamesAt}
-use Rattle.lines.specs.inner.Places.{NamesKept}
+use Rattle.lines.specs.inner.Places.{EndOf, drop_is_end, end_of_end, rest_is_end, name_is_front, name_on, part_of}
+use Rattle.lines.specs.inner.Places.{Stands, no_place, StandsAt, NamesAt, NamesKept}
+use Rattle.lines.specs.declared.NamePlace.{NamePlace}
 use Rattle.register.specs.Register.{lines_after}
 use Rattle.register.specs.inner.Names.{lines_next}
 
@@ -26,24 +28,38 @@ name_on_line (suc k) s = name_on_line k (rest_of s)
 
 -- ---- the names kept
 
--- After k lines from `first`, `s` is what is left, and the names passed are kept.
-pub record Kept (k : ℕ) (first s prints starts ends : List ℕ) : Type 0 where
+-- After k lines from `first`, `s` is what is left, and the names passed are kept: where each stands, and its fingerprint.
+pub record Kept (k : ℕ) (first s prints : List ℕ) (places : List NamePlace) : Type 0 where
   pub here : s ≡ lines_after k first
-  pub names : NamesKept k first prints starts ends
+  pub names : NamesAt k first places
+  pub room : length prints ≡ state_limit
+  pub printed : (i : ℕ) → i < k → get_or prints i 0 ≡ fingerprint_of (name_on i first)
 
-pub kept_none : (s starts ends : List ℕ) → length starts ≡ state_limit → length ends ≡ state_limit
-    → Kept 0 s s (replicate state_limit 0) starts ends
+pub kept_none : (s : List ℕ) (places : List NamePlace) → length places ≡ state_limit → Kept 0 s s (replicate state_limit 0) places
 unfolding lines_after
-kept_none s starts ends starts-room ends-room = record {
+kept_none s places room = record {
   here = refl;
-  names = record {
-    places = record { few = omega arith; room = (starts-room, ends-room); each = λ i below. absurd (omega arith) };
-    room = refl;
-    printed = λ i below. absurd (omega arith);
-  };
+  names = record { few = omega arith; room = room; each = λ i below. absurd (omega arith) };
+  room = refl;
+  printed = λ i below. absurd (omega arith);
 }
 
-pub kept_end : {k : ℕ} {first s prints starts ends : List ℕ} → Kept k first s prints starts ends → EndOf first s
+-- The names passed, without the room that is left.
+pub kept_many : {k : ℕ} {first s prints : List ℕ} {places : List NamePlace} → Kept k first s prints places → length (take k prints) ≡ k
+kept_many {k} {first} {s} {prints} so = length-take-le k prints (omega (arith, so.names.few, so.room))
+
+pub kept_names : {k : ℕ} {first s prints : List ℕ} {places : List NamePlace} → Kept k first s prints places
+    → NamesKept first (take k prints) (take k places)
+kept_names {k} {first} {s} {prints} {places} so =
+    let many = kept_many so in
+    let paired : length (take k places) ≡ k = length-take-le k places (omega (arith, so.names.few, so.names.room)) in
+    record {
+      paired = paired ∙ sym many;
+      each = λ i below. rw (get_or-take k places i no_place (omega arith)) (so.names.each i (omega arith));
+      printed = λ i below. rw (get_or-take k prints i 0 (omega arith)) (so.printed i (omega arith));
+    }
+
+pub kept_end : {k : ℕ} {first s prints : List ℕ} {places : List NamePlace} → Kept k first s prints places → EndOf first s
 kept_end {k} {first} so = rw so.here (lines_are_end k first)
 
 -- The name of the line that is next starts where the line does.
@@ -66,57 +82,43 @@ next_stands first s width end long =
     }
 
 -- One line more, with the rest after it and its name's fingerprint and length.
-pub kept_more : (k : ℕ) (first s rest prints starts ends : List ℕ) (print width : ℕ) → Kept k first s prints starts ends
+pub kept_more : (k : ℕ) (first s rest prints : List ℕ) (places : List NamePlace) (print width : ℕ) → Kept k first s prints places
     → k < state_limit → rest ≡ rest_of s → print ≡ fingerprint_of (name_at s) → width ≡ length (name_at s)
     → let start = length first - length s in
-    Kept (k + 1) first rest (set prints k print) (set starts k start) (set ends k (start + width))
-kept_more k first s rest prints starts ends print width so inside after its long = record {
+    Kept (k + 1) first rest (set prints k print) (set places k (record { start = start; end = start + width }))
+kept_more k first s rest prints places print width so inside after its long = record {
   here = rw (after, add-one, lines_next k first, so.here);
   names = record {
-    places = record {
-      few = omega arith;
-      room = (length-set starts k start ∙ places.room.0, length-set ends k (start + width) ∙ places.room.1);
-      each = below_more StandsAt k earlier latest;
-    };
-    room = length-set prints k print ∙ so.names.room;
-    printed = below_more PrintedAt k printed_earlier printed_latest;
+    few = omega arith;
+    room = length-set places k place ∙ so.names.room;
+    each = below_more (StandsAt first (set places k place)) k earlier latest;
   };
+  room = length-set prints k print ∙ so.room;
+  printed = below_more PrintedAt k printed_earlier printed_latest;
 }
   where
     start : ℕ
     start = length first - length s
 
-    places : NamesAt k first starts ends
-    places = so.names.places
+    place : NamePlace
+    place = record { start = start; end = start + width }
 
     name_here : name_on k first ≡ name_at s
     name_here = rw so.here (name_on_line k first)
 
-    StandsAt : ℕ → Type 0
-    StandsAt i = Stands first (name_on i first) (get_or (set starts k start) i 0) (get_or (set ends k (start + width)) i 0)
+    earlier : (i : ℕ) → i < k → StandsAt first (set places k place) i
+    earlier i below = rw (get_or-set_other places k i place no_place (λ e. absurd (omega arith))) (so.names.each i below)
 
-    earlier : (i : ℕ) → i < k → StandsAt i
-    earlier i below =
-        rw (
-          get_or-set_other starts k i start 0 (λ e. absurd (omega arith)),
-          get_or-set_other ends k i (start + width) 0 (λ e. absurd (omega arith)),
-        )
-        (places.each i below)
-
-    latest : StandsAt k
+    latest : StandsAt first (set places k place) k
     latest =
-        rw (
-          get_or-set_same starts k start 0 (omega (arith, places.room.0)),
-          get_or-set_same ends k (start + width) 0 (omega (arith, places.room.1)),
-          name_here,
-        )
+        rw (get_or-set_same places k place no_place (omega (arith, so.names.room)), name_here)
         (next_stands first s width (kept_end so) long)
 
     PrintedAt : ℕ → Type 0
     PrintedAt i = get_or (set prints k print) i 0 ≡ fingerprint_of (name_on i first)
 
     printed_earlier : (i : ℕ) → i < k → PrintedAt i
-    printed_earlier i below = get_or-set_other prints k i print 0 (λ e. absurd (omega arith)) ∙ so.names.printed i below
+    printed_earlier i below = get_or-set_other prints k i print 0 (λ e. absurd (omega arith)) ∙ so.printed i below
 
     printed_latest : PrintedAt k
-    printed_latest = get_or-set_same prints k print 0 (omega (arith, so.names.room)) ∙ its ∙ rw name_here
+    printed_latest = get_or-set_same prints k print 0 (omega (arith, so.room)) ∙ its ∙ rw name_here

@@ -1,12 +1,14 @@
 -- The rows of a register's states, for crates that walk them or that look a name up: where the name of each row stands.
 -- Assumes nothing.
-use Rattle.std.specs.Prelude.{◌≡◌, refl, List, ℕ, ◌+◌, ◌<◌, ◌≤◌, length, get_or}
+use Rattle.std.specs.Prelude.{◌≡◌, refl, List, ℕ, ◌+◌, ◌<◌, ◌≤◌, length, get_or, Result, IfOk}
 use Rattle.std.proofs.Common.{add-one, arith}
 use Rattle.apportionment.specs.Limits.{state_limit}
 use Rattle.fields.specs.Grammar.{word_limit}
 use Rattle.fields.specs.inner.Grammar.{name_length}
 use Rattle.apportionment.specs.Refusals.{accepted}
-use Rattle.lines.specs.inner.Places.{FrontOf, EndOf, end_of_end, rest_is_end, name_is_front, Stands, NamesAt}
+use Rattle.apportionment.specs.declared.refusals.Refused.{Refused}
+use Rattle.lines.specs.declared.NamePlace.{NamePlace}
+use Rattle.lines.specs.inner.Places.{FrontOf, EndOf, end_of_end, rest_is_end, name_is_front, no_place, Stands, NamesAt}
 use Rattle.register.specs.Register.{reading_of}
 use Rattle.register.specs.Register.{rows_of, lines_after, name_in_row}
 use Rattle.register.specs.inner.Names.{lines_next}
@@ -35,29 +37,29 @@ row_is_end s k = end_of_end (rest_is_end s) (lines_are_end k (rows_of s))
 pub name_is_first : (rows : List ℕ) (k : ℕ) → FrontOf (lines_after k rows) (name_in_row rows k)
 name_is_first rows k = name_is_front (lines_after k rows)
 
--- Room for the starts and the ends of as many names as there may be.
-pub record PlacesRoom (starts ends : List ℕ) : Type 0 where
-  pub for_starts : length starts ≡ state_limit
-  pub for_ends : length ends ≡ state_limit
+-- Room for the places of as many names as there may be.
+abbrev pub PlacesRoom : (places : List NamePlace) → Type 0
+PlacesRoom places = length places ≡ state_limit
 
--- The first n places of two lists hold the starts and the ends of the names of the first n rows, counted from where the rows start.
-abbrev pub Placed : (n : ℕ) (rows starts ends : List ℕ) → Type 0
-Placed n rows starts ends = NamesAt n rows starts ends
+-- The first n of a list of places hold the names of the first n rows, counted from where the rows start.
+abbrev pub Placed : (n : ℕ) (rows : List ℕ) (places : List NamePlace) → Type 0
+Placed n rows places = NamesAt n rows places
 
--- So do the lists of a register that is read.
-abbrev pub PlacedIn : (s starts ends : List ℕ) → Reading → Type 0
-PlacedIn s starts ends r = r.refusal ≡ accepted → Placed r.states (rows_of s) starts ends
+-- So does the list of a register that is read.
+abbrev pub PlacedIn : (s : List ℕ) (places : List NamePlace) → Result Reading Refused → Type 0
+PlacedIn s places read = IfOk read (λ reading. Placed reading.states (rows_of s) places)
 
--- The name of the row with one place stands where the lists say.
-pub record PlacedAt (place : ℕ) (rows starts ends : List ℕ) : Type 0 where
+-- The name of the row with one place stands where the list says.
+pub record PlacedAt (place : ℕ) (rows : List ℕ) (places : List NamePlace) : Type 0 where
   pub few : place < state_limit
-  pub known : (place < length starts) × (place < length ends)
-  pub stands : Stands rows (name_in_row rows place) (get_or starts place 0) (get_or ends place 0)
+  pub known : place < length places
+  pub stands : Stands rows (name_in_row rows place) (get_or places place no_place).start (get_or places place no_place).end
 
-pub placed_at : {n : ℕ} {rows starts ends : List ℕ} → Placed n rows starts ends → (place : ℕ) → place < n → PlacedAt place rows starts ends
-placed_at {n} {rows} {starts} {ends} all place below = record {
+pub placed_at : {n : ℕ} {rows : List ℕ} {places : List NamePlace} → Placed n rows places → (place : ℕ) → place < n
+    → PlacedAt place rows places
+placed_at {n} {rows} {places} all place below = record {
   few = omega (arith, all.few);
-  known = (omega (arith, all.few, all.room.0), omega (arith, all.few, all.room.1));
+  known = omega (arith, all.few, all.room);
   stands = rw (name_on_line place rows) at (all.each place below);
 }
 

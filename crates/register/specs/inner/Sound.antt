@@ -19,8 +19,8 @@ use Rattle.register.specs.inner.Register.{states_passed}
 use Rattle.register.specs.inner.Names.{lines_next}
 use Rattle.register.specs.inner.Kept.{name_on_line}
 use Rattle.register.specs.Register.{lines_after, name_refusal_in, name_refusal_of, name_of}
-use Rattle.lines.specs.declared.head.Head.{Head}
-use Rattle.register.specs.declared.Reading.{Reading}
+use Rattle.lines.specs.Lines.{HeadOutcome}
+use Rattle.register.specs.Register.{ReadingOutcome}
 
 -- ---- the populations so far
 
@@ -78,13 +78,13 @@ so_far_more k total p populations so inside some fits = record {
 -- ---- a reading that is not refused
 
 -- The reading that the lines after a head lead to.
-record Accepted (head : Head) (r : Reading) : Type 0 where
+record Accepted (head : HeadOutcome) (r : ReadingOutcome) : Type 0 where
   pub counted : r.states ≡ head.states
   pub housed : r.house ≡ head.house
   pub lined : r.line ≡ 0
   pub peopled : SoFar r.states r.total r.populations
 
-closing_accepted : (head : Head) (total : ℕ) (populations s : List ℕ) → SoFar head.states total populations
+closing_accepted : (head : HeadOutcome) (total : ℕ) (populations s : List ℕ) → SoFar head.states total populations
     → (closing_of head total populations s).refusal ≡ accepted → Accepted head (closing_of head total populations s)
 unfolding closing_of end_of refused accepts
 closing_accepted head total populations s so =
@@ -100,7 +100,7 @@ closing_accepted head total populations s so =
     by_tests false u closing good = absurd (eqb-false (closing_refusal total s) accepted closing good)
 
 -- A state's line and what follows it were not refused: neither was the line, and what is read is what the rest gives.
-module _ (head : Head) (first : List ℕ) (left k total : ℕ) (populations s : List ℕ)
+module _ (head : HeadOutcome) (first : List ℕ) (left k total : ℕ) (populations s : List ℕ)
     (good : (states_from head first (suc left) k total populations s).refusal ≡ accepted) where
   line_accepted : state_refusal first k total s ≡ accepted
   unfolding states_from refused
@@ -117,7 +117,7 @@ module _ (head : Head) (first : List ℕ) (left k total : ℕ) (populations s : 
       ≡ accepted
   rest_accepted = rw rest_is at good
 
-states_accepted : (head : Head) (first : List ℕ) (left k total : ℕ) (populations s : List ℕ)
+states_accepted : (head : HeadOutcome) (first : List ℕ) (left k total : ℕ) (populations s : List ℕ)
     → head.states ≤ state_limit → k + left ≡ head.states → SoFar k total populations
     → (states_from head first left k total populations s).refusal ≡ accepted
     → Accepted head (states_from head first left k total populations s)
@@ -163,7 +163,7 @@ module _ (s : List ℕ) (good : (reading_of s).refusal ≡ accepted) where
   reading_lined = reading_accepted.lined
 
 -- What a caller may take from a reading.
-pub record ReadingSound (r : Reading) : Type 0 where
+pub record ReadingSound (r : ReadingOutcome) : Type 0 where
   pub states : (1 ≤ r.states) × (r.states ≤ state_limit)
   pub house : (1 ≤ r.house) × (r.house ≤ house_limit)
   pub populations : SoFar r.states r.total r.populations
@@ -179,16 +179,16 @@ reading_sound s good =
     }
 
 -- A register that reading does not refuse, and what it says.
-pub record GoodReading (s : List ℕ) (r : Reading) : Type 0 where
+pub record GoodReading (s : List ℕ) (r : ReadingOutcome) : Type 0 where
   pub reading : r ≡ reading_of s
   pub good : r.refusal ≡ accepted
 
-pub good_sound : {s : List ℕ} {r : Reading} → GoodReading s r → ReadingSound r
+pub good_sound : {s : List ℕ} {r : ReadingOutcome} → GoodReading s r → ReadingSound r
 good_sound {s} read = rw read.reading (reading_sound s (rw read.reading at read.good))
 
 -- ---- the names of the states
 
-states_named : (head : Head) (first : List ℕ) (left k total : ℕ) (populations s : List ℕ)
+states_named : (head : HeadOutcome) (first : List ℕ) (left k total : ℕ) (populations s : List ℕ)
     → (states_from head first left k total populations s).refusal ≡ accepted
     → (i : ℕ) → i < left → is_name (name_at (lines_after i s)) ≡ true
 unfolding lines_after
@@ -216,7 +216,7 @@ unfolding name_of name_refusal_of name_refusal_in
 name_none s i good past = rw (eq-eqb (reading_of s).refusal accepted good, le-ltb i (reading_of s).states past)
 
 -- No name stands on a line before its own.
-states_apart : (head : Head) (first : List ℕ) (left k total : ℕ) (populations s : List ℕ) → s ≡ lines_after k first
+states_apart : (head : HeadOutcome) (first : List ℕ) (left k total : ℕ) (populations s : List ℕ) → s ≡ lines_after k first
     → (states_from head first left k total populations s).refusal ≡ accepted
     → (i j : ℕ) → i < k + j → j < left → same_list (name_at (lines_after i first)) (name_at (lines_after j s)) ≡ false
 unfolding lines_after

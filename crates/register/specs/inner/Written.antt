@@ -25,7 +25,7 @@ use Rattle.lines.specs.Lines.{name_at, used_in, state_refusal}
 use Rattle.lines.specs.inner.Places.{used_on_none}
 use Rattle.lines.specs.inner.Written.{Pair, pair_text, pair_written, pair_number, state_written, closing_written, name_without_comma}
 use Rattle.lines.specs.inner.Written.{HeadFields, head_text, head_fields, head_written}
-use Rattle.lines.specs.declared.head.Head.{Head}
+use Rattle.lines.specs.Lines.{HeadOutcome}
 use Rattle.register.specs.Register.{no_populations, accepts, end_of, closing_of, states_from, states_of, lines_of, reading_of}
 use Rattle.register.specs.Register.{populations_in}
 use Rattle.register.specs.Register.{lines_after, name_of}
@@ -34,7 +34,7 @@ use Rattle.register.specs.inner.Register.{states_passed}
 use Rattle.register.specs.inner.Kept.{name_on_line}
 use Rattle.register.specs.inner.Rows.{name_limit}
 use Rattle.register.specs.inner.Sound.{sum_last, reading_sound, reading_lined, reading_named, reading_apart, name_there}
-use Rattle.register.specs.declared.Reading.{Reading}
+use Rattle.register.specs.Register.{ReadingOutcome}
 
 -- ---- what may be written
 
@@ -65,7 +65,7 @@ unfoldable pub padded : (k : ℕ) → List ℕ → List ℕ
 padded k ps = take k ps ++ replicate (state_limit - k) 0
 
 -- What reading gives where it accepts.
-unfoldable pub reading_with : Method → (H : ℕ) (ps : List ℕ) → Reading
+unfoldable pub reading_with : Method → (H : ℕ) (ps : List ℕ) → ReadingOutcome
 reading_with m H ps =
     accepts (record { refusal = accepted; method = m; house = H; states = length ps }) (sum ps) (padded (length ps) ps)
 
@@ -106,7 +106,7 @@ module _ {name : ℕ → List ℕ} {ps : List ℕ} {rows : ℕ → List ℕ} (wr
   name_in_rows : (k : ℕ) → k < length ps → name_at (lines_after k (rows 0)) ≡ name k
   name_in_rows k below = rw (rows_are_lines k (omega arith)) (written.each k below).name
 
-  module _ (fit : Writable name ps) (head : Head) where
+  module _ (fit : Writable name ps) (head : HeadOutcome) where
     unused : (k : ℕ) → k < length ps → used_in k (rows 0) (name k) ≡ false
     unused k below =
         used_on_none k (rows 0) (name k)
@@ -198,12 +198,12 @@ module _ {s : List ℕ} {m : Method} {H : ℕ} {name : ℕ → List ℕ} {ps : L
 -- ---- a register that is read may be written
 
 -- A reading that accepts, with what it says.
-no_refusal : (r : Reading) → r.refusal ≡ accepted → r.line ≡ 0
+no_refusal : (r : ReadingOutcome) → r.refusal ≡ accepted → r.line ≡ 0
     → r ≡ accepts (record { refusal = accepted; method = r.method; house = r.house; states = r.states }) r.total r.populations
 unfolding accepts
 no_refusal r good lined = ap (λ (x : ℕ). answered x r.line) good ∙ ap (λ (x : ℕ). answered accepted x) lined
   where
-    answered : (refusal line : ℕ) → Reading
+    answered : (refusal line : ℕ) → ReadingOutcome
     answered refusal line =
         record {
           refusal = refusal;
@@ -216,7 +216,7 @@ no_refusal r good lined = ap (λ (x : ℕ). answered x r.line) good ∙ ap (λ (
         }
 
 module _ (s : List ℕ) (good : (reading_of s).refusal ≡ accepted) where
-  abbrev r : Reading
+  abbrev r : ReadingOutcome
   r = reading_of s
 
   pub read_count : length (populations_in r) ≡ r.states

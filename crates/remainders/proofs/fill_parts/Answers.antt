@@ -8,6 +8,7 @@ use Rattle.apportionment.specs.inner.Lists.{sum-list_of_more}
 use Rattle.apportionment.specs.inner.Problem.{sum_above_zero}
 use Rattle.apportionment.specs.inner.Filling.{fill_starts, fill_goes_on, fill_ends}
 use Rattle.apportionment.specs.inner.WholeParts.{share_fits, whole_part_is, whole_parts_within}
+use Rattle.bar.specs.inner.Search.{min_is, max_is}
 use Rattle.remainders.specs.inner.Precedence.{precedence_of, state_share}
 use Rattle.remainders.specs.inner.Seats.{spans_none, spans_on}
 use Rattle.remainders.proofs.fill_parts.Goals as goal
@@ -52,8 +53,8 @@ loop-i-preserved c =
     let ok = c.requires.fillable.problem in
     let whole = whole_part_is ok i in
     let own = c.precedence-own.ensures ∙ ap (λ (P : ℕ). precedence_of p P H) ok.states.sums in
-    let least = c.lesser-least.ensures in
-    let greatest = c.greater-greatest.ensures in (
+    let least = c.min-least.ensures ∙ min_is _ _ in
+    let greatest = c.max-greatest.ensures ∙ max_is _ _ in (
       fill_goes_on _ _ _ _ _ c.loop-i-test.true own so_far.0,
       fill_goes_on _ _ _ _ _ c.loop-i-test.true whole so_far.1,
       omega (arith, so_far.2, sum-list_of_more (whole_part ps H) i, whole),

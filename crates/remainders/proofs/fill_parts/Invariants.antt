@@ -1,7 +1,6 @@
 -- `remainders::fill_parts` meets its contract. The loop's invariant: the numbers passed are precedences and whole parts, the number given
--- is the sum of these, and no precedence lies outside of the least and the greatest. The measure is what is left of the list.
+-- is the sum of these, and no precedence lies outside of the least and the greatest.
 use mathlib.Core.Path.{◌≡◌}
-use Prim.Native.Nat.{◌-◌}
 use lib.ListN.{length}
 use Rattle.apportionment.specs.Lists.{sum, list_of}
 use Rattle.apportionment.specs.Remainders.{whole_part}
@@ -16,7 +15,3 @@ invariant-loop-i l =
     × FilledTo (whole_part l.populations l.house) (length l.populations) l.i l.seats
     × (l.given ≡ sum (list_of (whole_part l.populations l.house) l.i))
     × Spans (precedence_at l.populations l.house) l.i l.least l.greatest
-
-abbrev pub decreases-loop-i : goal.decreases-loop-i
-decreases-loop-i l =
-    length l.populations - l.i

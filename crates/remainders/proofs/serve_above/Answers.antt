@@ -23,7 +23,7 @@ overflow_add-seats c =
       c.loop-i.invariant.1 i (omega arith),
       c.requires.seats_fit i c.loop-i.invariant.2 c.loop-i-test.true,
       at_most_one_served own c.args.bar 0,
-      c.extra_seat-extra.ensures,
+      c.extra_seat.ensures,
     )
 
 pub loop-i-preserved : goal.loop-i-preserved
@@ -34,7 +34,7 @@ loop-i-preserved c =
     let here = served_from_here c.args.precedences.now c.args.bar c.args.from seats i c.loop-i.invariant.2 in (
       fill_goes_on _ _ _ _ _
           (omega (arith, c.requires.same_length, c.loop-i-test.true))
-          (omega (arith, kept i (omega arith), c.extra_seat-extra.ensures, here))
+          (omega (arith, kept i (omega arith), c.extra_seat.ensures, here))
           c.loop-i.invariant.0,
       rest_is_kept c.loop-i.seats seats i _ kept,
       omega (arith, c.loop-i.invariant.2),

@@ -1,7 +1,7 @@
 use Rattle.apportionment.specs.inner.Filling.{fill_starts, fill_goes_on, rest_is_kept}
-use mathlib.Core.Path.{refl, sym, ap, ◌∙◌}
+use mathlib.Core.Path.{◌≡◌, refl, sym, ap, ◌∙◌}
 use native.Mathlib.Omega.{arith}
-use lib.ListN.{get_or}
+use lib.ListN.{length, get_or}
 use Rattle.remainders.specs.inner.Serving.{extra_by, spare_after, spare_at, spare_one_more, at_most_one_served}
 use Rattle.remainders.proofs.serve_spare.Goals as goal
 
@@ -23,7 +23,7 @@ overflow_add-seats c =
       c.loop-i.invariant.1 i (omega arith),
       c.requires.seats_fit i c.loop-i-test.true,
       at_most_one_served own c.args.bar c.loop-i.rest,
-      c.extra_seat-extra.ensures,
+      c.extra_seat.ensures,
     )
 
 pub loop-i-preserved : goal.loop-i-preserved
@@ -33,7 +33,7 @@ loop-i-preserved c =
     let i = c.loop-i.i in
     let kept = c.loop-i.invariant.1 in
     let rest = c.loop-i.invariant.2 in
-    let extra = c.extra_seat-extra.ensures ∙ ap (extra_by (get_or xs i 0) bar) rest in
+    let extra = c.extra_seat.ensures ∙ ap (extra_by (get_or xs i 0) bar) rest in
     let spare = c.spare_after-rest.ensures ∙ ap (spare_after (get_or xs i 0) bar) rest in (
       fill_goes_on _ _ _ _ _
           (omega (arith, c.requires.same_length, c.loop-i-test.true))
@@ -45,5 +45,11 @@ loop-i-preserved c =
 
 pub returns : goal.returns
 returns c =
+    let xs = c.args.precedences.now in
+    let all : c.loop-i.i ≡ length xs = omega (arith, c.loop-i-test.false) in
     let so_far = c.loop-i.invariant in
-    record { done = so_far.0; kept = so_far.1; none = λ h. absurd (omega (arith, c.loop-i-test.false)) }
+    record {
+      done = rw all at so_far.0;
+      kept = λ k h. so_far.1 k (omega arith);
+      none = λ h. absurd (omega arith);
+    }

@@ -1,26 +1,14 @@
-use mathlib.Core.Path.{sym, ◌∙◌}
-use native.Mathlib.Nat.{sub-zero}
-use native.Mathlib.Omega.{arith}
-use Rattle.showing.specs.Work.{first_difference}
-use Rattle.showing.specs.inner.Work.{difference_none, difference_here, difference_later}
+-- `showing::first_difference` meets its contract: it is the place of the first pair of two numbers that differ.
+use Rattle.std.proofs.Common.{◌≡◌, rules, tests}
+use Rattle.std.proofs.lemmas.Iterator.{IsFirst-from_position, YieldsList-from_slice, YieldsList-from_zip}
+use Rattle.showing.specs.inner.Work.{first_found}
 use Rattle.showing.proofs.first_difference.Goals as goal
 
-pub loop-i-init : goal.loop-i-init
-unfolding first_difference
-loop-i-init c = (omega arith, rw sub-zero)
-
-pub offset_bounds-ys-i : goal.offset_bounds-ys-i
-offset_bounds-ys-i c = omega (arith, c.requires)
-
-pub bounds-ys-i : goal.bounds-ys-i
-bounds-ys-i c = omega (arith, c.requires)
-
-pub returns-then-xs-i : goal.returns-then-xs-i
-returns-then-xs-i c = sym (c.loop-i.invariant.1 ∙ difference_here _ _ _ _ (omega arith) c.if-xs-i.true)
-
-pub loop-i-preserved : goal.loop-i-preserved
-loop-i-preserved c =
-    (omega arith, c.loop-i.invariant.1 ∙ difference_later _ _ _ _ _ (omega arith) c.if-xs-i.false)
-
 pub returns : goal.returns
-returns c = sym (c.loop-i.invariant.1 ∙ difference_none _ _ _ _ (omega arith))
+returns c =
+    let xs = c.args.xs.now in
+    let ys = c.args.ys.now in
+    let first = IsFirst-from_position c.position.new.self _ _ (λ p. p.0 ≡ p.1 → ⊥) (λ p. p.0 ≡ p.1) c.position.ensures.ran
+    (YieldsList-from_zip (YieldsList-from_slice xs cc) (YieldsList-from_slice ys cc)) (λ x q k. search (rules, tests))
+    (λ x q k. search (rules, tests)) in
+    rw c.unwrap_or.ensures (first_found xs ys c.requires _ first)

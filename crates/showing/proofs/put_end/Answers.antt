@@ -1,12 +1,9 @@
 -- `showing::put_end` meets its contract: the states.
-use native.Mathlib.Omega.{arith}
+use Rattle.std.proofs.Common.{rules}
 use Rattle.showing.specs.Work.{end_text}
-use Rattle.writing.specs.inner.Writing.{wrote_nothing}
+use Rattle.writing.specs.inner.Page.{written_whole}
 use Rattle.showing.proofs.put_end.Goals as goal
-
-pub put_states-requires : goal.put_states-requires
-put_states-requires c = (wrote_nothing _ _ (omega arith), c.requires)
 
 pub returns : goal.returns
 unfolding end_text
-returns c = c.put_states.ensures
+returns c = written_whole c.new-page.ensures.begun c.put_states.ensures (search rules) c.place.ensures

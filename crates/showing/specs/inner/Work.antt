@@ -1,8 +1,11 @@
 -- Laws of what Work.antt defines, which proofs cite.
 -- Assumes nothing.
-use Rattle.std.specs.Prelude.{◌≡◌, refl, Bool, List, ◌++◌, ℕ, zero, suc, ◌+◌, ◌<◌, ◌≤◌, eqb, ltb, length, get_or}
+use Rattle.std.specs.Prelude.{◌≡◌, Bool, List, ◌++◌, ℕ, zero, suc, ◌+◌, ◌<◌, ◌≤◌, eqb, ltb, length, get_or, Option, None, Some}
 use Rattle.std.proofs.Common.{sym, add-one, arith, eq-eqb, ne_eqb, eqb-true, ltb-true, ltb-false, ext_get_or}
 use Rattle.std.proofs.lemmas.Bool.{eqb-false}
+use Rattle.std.specs.List.{AllWithin, HoldsAt, zip}
+use Rattle.std.specs.Option.{MatchOption, unwrap_or}
+use Rattle.std.proofs.lemmas.Slice.Zip.{length-zip, get_or-zip}
 use Rattle.apportionment.specs.inner.Tests.{either_way}
 use Rattle.register.specs.Register.{name_in_row}
 use Rattle.showing.specs.Work.{state_line, state_lines, seats_if_moved, weighed_line, weighed_lines, difference_from, first_difference}
@@ -30,20 +33,43 @@ weighed_lines_more step adds rows ps seats P H k = rw add-one
 
 -- ---- a step
 
-pub difference_none : (xs ys : List ℕ) (left i : ℕ) → left ≤ 0 → difference_from xs ys left i ≡ i
+-- The first difference is where the lists differ after places where they do not, or past the last place.
+difference_at : (xs ys : List ℕ) (left i r : ℕ) → i ≤ r → r ≤ i + left → ((j : ℕ) → j < r → get_or xs j 0 ≡ get_or ys j 0)
+    → (r < i + left → get_or xs r 0 ≡ get_or ys r 0 → ⊥) → difference_from xs ys left i ≡ r
 unfolding difference_from
-difference_none xs ys zero i none = refl
-difference_none xs ys (suc left) i none = absurd (omega arith)
+difference_at xs ys zero i r from to same differ = omega arith
+difference_at xs ys (suc left) i r from to same differ =
+    either_way (eqb i r)
+    (λ here.
+    let at : i ≡ r = eqb-true i r here in
+    rw (at, ne_eqb (get_or xs r 0) (get_or ys r 0) (differ (omega arith))))
+    (λ later.
+    let before : i < r = omega (arith, eqb-false i r later) in
+    rw (eq-eqb (get_or xs i 0) (get_or ys i 0) (same i before))
+    (difference_at xs ys left (i + 1) r (omega arith) (omega arith) same (λ below. differ (omega arith))))
 
-pub difference_here : (xs ys : List ℕ) (left i : ℕ) → 0 < left → (get_or xs i 0 ≡ get_or ys i 0 → ⊥) → difference_from xs ys left i ≡ i
-unfolding difference_from
-difference_here xs ys zero i some differ = absurd (omega arith)
-difference_here xs ys (suc left) i some differ = rw (ne_eqb (get_or xs i 0) (get_or ys i 0) differ)
+-- So a search of the pairs of two lists of one length finds it.
+pub first_found : (xs ys : List ℕ) → length ys ≡ length xs → (r : Option ℕ)
+    → MatchOption r (AllWithin (λ p. p.0 ≡ p.1) (zip xs ys) 0 (length (zip xs ys)))
+    (λ i. (i < length (zip xs ys)) × HoldsAt (λ p. p.0 ≡ p.1 → ⊥) (zip xs ys) i × AllWithin (λ p. p.0 ≡ p.1) (zip xs ys) 0 i)
+    → unwrap_or r (length xs) ≡ first_difference xs ys
+unfolding first_difference
+first_found xs ys paired None none =
+    sym (difference_at xs ys (length xs) 0 (length xs) (omega arith) (omega arith) same (λ below. absurd (omega arith)))
+  where
+    same : (j : ℕ) → j < length xs → get_or xs j 0 ≡ get_or ys j 0
+    same j below = rw (get_or-zip xs ys j (0, 0) below (omega arith)) at (none j (0, 0) (omega arith) (omega (arith, length-zip xs ys)))
+first_found xs ys paired (Some i) found =
+    sym (difference_at xs ys (length xs) 0 i (omega arith) (omega (arith, inside)) (λ j below. same j below) (λ below. differ))
+  where
+    inside : i < length xs
+    inside = omega (arith, found.0, length-zip xs ys)
 
-pub difference_later : (xs ys : List ℕ) (left next i : ℕ) → left ≡ suc next → get_or xs i 0 ≡ get_or ys i 0
-    → difference_from xs ys left i ≡ difference_from xs ys next (i + 1)
-unfolding difference_from
-difference_later xs ys left next i one same = rw (one, eq-eqb (get_or xs i 0) (get_or ys i 0) same)
+    same : (j : ℕ) → j < i → get_or xs j 0 ≡ get_or ys j 0
+    same j below = rw (get_or-zip xs ys j (0, 0) (omega (arith, inside)) (omega (arith, inside))) at (found.2 j (0, 0) (omega arith) below)
+
+    differ : get_or xs i 0 ≡ get_or ys i 0 → ⊥
+    differ = rw (get_or-zip xs ys i (0, 0) inside (omega (arith, inside))) at (found.1 (0, 0))
 
 -- Where the first difference lies past every place, there is none.
 no_difference : (xs ys : List ℕ) (left i : ℕ) → i + left ≤ difference_from xs ys left i

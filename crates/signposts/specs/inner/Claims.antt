@@ -1,6 +1,6 @@
 -- Claims as the code holds them, in two machine words: what they are, how they are compared, and that they fit.
 -- Assumes nothing.
-use Rattle.std.specs.Prelude.{◌≡◌, Bool, ℕ, ◌+◌, ◌-◌, ◌*◌, ◌≤◌, ltb}
+use Rattle.std.specs.Prelude.{Bool, ℕ, ◌+◌, ◌*◌, ◌≤◌, ltb}
 use Rattle.std.proofs.Common.{arith, le_refl, mul-le-mul, Fits}
 use Rattle.std.specs.Int.{w64}
 use Rattle.apportionment.specs.Limits.{house_limit, sum_limit}
@@ -14,15 +14,11 @@ use Rattle.signposts.specs.declared.Claim.{Claim}
 -- ---- claims
 
 -- A fraction in two words.
-unfoldable pub held : Fraction → Claim
+abbrev pub held : Fraction → Claim
 held f = record { over = f.over; under = f.under }
 
--- Claims of equal parts are equal.
-pub same_parts : {x y u v : ℕ} → x ≡ y → u ≡ v → ◌≡◌ {A = Claim} (record { over = x; under = u }) (record { over = y; under = v })
-same_parts e f = rw (e, f)
-
 -- The claim of a state with population p and a seats.
-unfoldable pub claim_for : DivisorMethod → (p a : ℕ) → Claim
+abbrev pub claim_for : DivisorMethod → (p a : ℕ) → Claim
 claim_for m p a = held (claim_of (signpost m) (weight_of m p) a)
 
 -- One claim comes before another: by their products, as exact fractions are compared.
@@ -42,9 +38,6 @@ seat_limit = aim_limit + 1
 pub record ClaimFits (p a : ℕ) : Type 0 where
   pub people_within : p ≤ sum_limit
   pub seats_within : a ≤ seat_limit
-
-pub one_less_fits : {p a : ℕ} → ClaimFits p a → ClaimFits p (a - 1)
-one_less_fits k = record { people_within = k.people_within; seats_within = omega (arith, k.seats_within) }
 
 -- Its denominator does: at most the square of the largest sum for Hill, and far less for the others.
 pub under_fits : (m : DivisorMethod) {p a : ℕ} → ClaimFits p a → Fits w64 (weight_of m p * (signpost m a).under)

@@ -1,13 +1,15 @@
 -- Which state moves first, by its claim: seats are placed where `up` and withdrawn otherwise.
 -- Assumes nothing.
-use Rattle.std.specs.Prelude.{◌≡◌, Bool, List, ℕ, ◌-◌, ◌<◌, ◌≤◌, length, get_or}
+use Rattle.std.specs.Prelude.{◌≡◌, refl, Bool, List, ℕ, ◌-◌, ◌<◌, ◌≤◌, length, get_or}
 use Rattle.std.proofs.Common.{arith}
 use Rattle.apportionment.specs.Lists.{first_place}
 use Rattle.apportionment.specs.declared.DivisorMethod.{DivisorMethod}
 use Rattle.claims.specs.inner.Moves.{move_order}
 use Rattle.claims.specs.inner.StandingOrder.{first_place_le}
-use Rattle.claims.specs.inner.DivisorClaims.{method_test}
-use Rattle.signposts.specs.inner.Claims.{ClaimFits}
+use Rattle.apportionment.specs.Quantities.{less}
+use Rattle.claims.specs.inner.DivisorClaims.{divisor_test, method_test}
+use Rattle.claims.specs.inner.Tournament.{scan_next}
+use Rattle.signposts.specs.inner.Claims.{ClaimFits, claim_for, less_claim}
 
 -- ---- what is within bounds
 
@@ -17,17 +19,17 @@ pub record ClaimsFit (ps ss : List ℕ) : Type 0 where
   pub same_length : length ss ≡ length ps
   pub each : (i : ℕ) → i < length ps → ClaimFits (get_or ps i 0) (get_or ss i 0)
 
--- So the claims of two of them do.
-pub record BothClaimsFit (ps ss : List ℕ) (i j : ℕ) : Type 0 where
-  pub all : ClaimsFit ps ss
-  pub one : i < length ps
-  pub other : j < length ps
-
 -- ---- who moves
 
 -- Every state may give up all its seats.
 abbrev pub no_fewest : ℕ → ℕ
 no_fewest i = 0
+
+-- One claim comes before another as their products in machine words say.
+pub compared : (m : DivisorMethod) (ps : List ℕ) (i a j b : ℕ)
+    → method_test m ps i a j b ≡ less_claim (claim_for m (get_or ps i 0) a) (claim_for m (get_or ps j 0) b)
+unfolding divisor_test less
+compared m ps i a j b = refl
 
 -- State i moves before state j.
 abbrev pub moves_before : DivisorMethod → Bool → (ps ss : List ℕ) → ℕ → ℕ → Bool
@@ -45,3 +47,6 @@ first_so_far_lt m up {ps} {ss} {i} k h e = omega (arith, e, k.some_state, first_
 pub record MovesFirst (m : DivisorMethod) (up : Bool) (ps ss : List ℕ) (i : ℕ) : Type 0 where
   pub first : i ≡ first_to_move m up ps ss
   pub within : i < length ps
+
+-- What a scan's turns rest on.
+pub ruleset scans = (scan_next, first_so_far_lt)

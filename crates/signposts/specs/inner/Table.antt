@@ -2,7 +2,7 @@
 -- alone (src/table.rt); that each of them gives document 01's signpost, up to the most seats that rounding can give, is the contract of
 -- `signpost_of` there.
 -- Assumes nothing.
-use Rattle.std.specs.Prelude.{◌≡◌, List, ℕ, ◌+◌, ◌*◌, ◌≤◌, get_or}
+use Rattle.std.specs.Prelude.{List, ℕ, ◌+◌, ◌*◌, ◌≤◌, get_or}
 use Rattle.std.proofs.Common.{arith, le_trans, mul-le-mul}
 use Rattle.apportionment.specs.Lists.{sum}
 use Rattle.apportionment.specs.inner.Lists.{entry_at_most_sum}
@@ -10,7 +10,7 @@ use Rattle.apportionment.specs.Quantities.{Fraction}
 use Rattle.signposts.specs.inner.Claims.{seat_limit}
 
 -- The fraction that a row gives at a seats: a quadratic above, by the coefficients of a², of a and of 1, and a line below.
-unfoldable pub row_signpost : (row : List ℕ) (a : ℕ) → Fraction
+abbrev pub row_signpost : (row : List ℕ) (a : ℕ) → Fraction
 row_signpost row a =
     record { over = get_or row 0 0 * (a * a) + get_or row 1 0 * a + get_or row 2 0; under = get_or row 3 0 * a + get_or row 4 0 }
 
@@ -36,9 +36,3 @@ module _ {row : List ℕ} {a : ℕ} (k : RowFits row a) where
   pub quadratic_at_most : (get_or row 0 0 * a + get_or row 1 0) * a + get_or row 2 0 ≤
       (row_limit * seat_limit + row_limit) * seat_limit + row_limit
   quadratic_at_most = omega (arith, k.small, mul-le-mul (line_at_most 0 1) k.seats_within, entry_at_most_sum row 2)
-
--- (A a + B) a + C is A a² + B a + C.
-pub quadratic_in_two_products : (row : List ℕ) (a : ℕ)
-    → (get_or row 0 0 * a + get_or row 1 0) * a + get_or row 2 0 ≡ (row_signpost row a).over
-unfolding row_signpost
-quadratic_in_two_products row a = omega arith

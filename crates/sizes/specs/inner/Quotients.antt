@@ -1,8 +1,6 @@
--- What comparing claims by quotients asks, that it gives their order, and that the products fit.
+-- What comparing claims by quotients asks, and that it gives their order.
 -- Assumes nothing.
-use Rattle.std.specs.Prelude.{◌≡◌, ℕ, ◌+◌, ◌*◌, ◌≤◌}
-use Rattle.std.proofs.Common.{le_trans, mul-le-mul}
-use Rattle.apportionment.specs.Limits.{house_limit, sum_limit}
+use Rattle.std.specs.Prelude.{◌≡◌, ℕ, ◌+◌}
 use Rattle.claims.specs.inner.SizeClaims.{size_before}
 use Rattle.claims.specs.inner.SizeQuotients.{Climbs, climbs_before, climbs_by_quotient}
 use Rattle.claims.specs.inner.SizeQuotients.{Falls, falls_before, falls_by_quotient}
@@ -21,7 +19,3 @@ climbs_compared {p} {a} {q} {b} (k, c) (l, d) = climbs_by_quotient k.state.peopl
 
 pub falls_compared : {p a q b P H : ℕ} → FallingClaim p a P H → FallingClaim q b P H → size_before P H p a q b ≡ falls_before P H p a q b
 falls_compared {p} {a} {q} {b} (k, c) (l, d) = falls_by_quotient k.state.peopled k.state.some_seat p a q b c d
-
--- The products by which quotients are compared are far below the limit of words.
-pub products_fit : {p a q b P H : ℕ} → WithSeats p a P H → WithSeats q b P H → p * b ≤ sum_limit * (house_limit + 1)
-products_fit c d = mul-le-mul (le_trans c.state.people c.state.sum_within) d.seats_within

@@ -28,11 +28,11 @@ loop-length-preserved g c =
     let from = c.loop-length.length in
     let room = length c.loop-length.bytes - from in
     let within = c.loop-length.invariant.0 in
-    let part = part_front from room c.in-Ok.more c.loop-length.bytes c.read.new.buf within c.in-Ok.ensures.bound.0 in
-    let joined = take_split from (from + c.in-Ok.more) c.loop-length.bytes (put_mid from room c.loop-length.bytes c.read.new.buf)
+    let part = part_front from room c.in_ok-more.more c.loop-length.bytes c.read.new.buf within c.in_ok-more.ensures.bound.0 in
+    let joined = take_split from (from + c.in_ok-more.more) c.loop-length.bytes (put_mid from room c.loop-length.bytes c.read.new.buf)
     (omega arith) (take-put_mid_below _ _ _ _ _ (le_refl _) within) in (
       search rules,
       search rules,
       subst (Consumes _ _) (ap (λ l. take from c.loop-length.bytes ++ l) (sym part) ∙ joined)
-          (Consumes-trans _ _ _ _ _ c.loop-length.invariant.2 c.in-Ok.ensures.bytes.0),
+          (Consumes-trans _ _ _ _ _ c.loop-length.invariant.2 c.in_ok-more.ensures.bytes.0),
     )

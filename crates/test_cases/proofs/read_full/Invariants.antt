@@ -3,8 +3,8 @@
 use Rattle.std.proofs.Common.{length, ◌-◌, ◌≡◌, ◌≤◌}
 use Rattle.test_cases.proofs.read_full.Given as goal
 
-abbrev pub invariant-loop-length : goal.invariant-loop-length
-invariant-loop-length g l = (l.length ≤ length l.bytes) × (length l.bytes ≡ length l.initial.bytes)
+abbrev pub invariant-loop-more : goal.invariant-loop-more
+invariant-loop-more g l = (l.length ≤ length l.bytes) × (length l.bytes ≡ length l.initial.bytes)
 
-abbrev pub decreases-loop-length : goal.decreases-loop-length
-decreases-loop-length g l = length l.initial.bytes - l.length
+abbrev pub decreases-loop-more : goal.decreases-loop-more
+decreases-loop-more g l = length l.initial.bytes - l.length

@@ -1,15 +1,10 @@
 -- `text::put_head` meets its contract: its pieces, one after the other.
 use Rattle.text.specs.Shared.{head_line}
-use Rattle.writing.specs.inner.Writing.{wrote_then}
+use Rattle.writing.specs.inner.Page.{appended_then}
 use Rattle.text.proofs.put_head.Goals as goal
 
 pub returns : goal.returns
 unfolding head_line
 returns c =
-    wrote_then
-    (wrote_then
-    (wrote_then
-    (wrote_then c.put_bytes-first.ensures c.put_byte-comma.ensures)
-    c.put_method-named.ensures)
-    c.put_numbers-numbers.ensures)
-    c.put_byte.ensures
+    let method = appended_then (appended_then c.put_bytes.ensures c.put_byte.ensures) c.put_method.ensures in
+    appended_then (appended_then method c.put_numbers.ensures) c.put_byte-2.ensures

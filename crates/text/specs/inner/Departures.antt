@@ -1,6 +1,7 @@
 -- A state's departure as text: what an answer of the departure operation is written as within the limits, and how long that can be.
 -- Assumes nothing.
-use Rattle.std.specs.Prelude.{◌≡◌, refl, Bool, true, false, cond, ℕ, zero, suc, ◌+◌, ◌-◌, ◌*◌, ◌/◌, ◌<◌, ◌≤◌, eqb, ℤ, pos, neg_ℤ}
+use Rattle.std.specs.Prelude.{◌≡◌, refl, Bool, true, false, cond, ℕ, zero, suc, ◌+◌, ◌-◌, ◌*◌, ◌/◌, ◌<◌, ◌≤◌, eqb}
+use Rattle.std.specs.Prelude.{ℤ, pos, neg_ℤ, Option as CodeOption, Result}
 use Rattle.std.proofs.Math.Option.{none, some, Option-elim}
 use mathlib.Core.List.{List}
 use Rattle.std.proofs.Common.{pos_of_ne-zero, arith, eq-eqb}
@@ -13,7 +14,8 @@ use Rattle.apportionment.specs.Quantities.{is_below, size_of, shown_scale, shown
 use Rattle.apportionment.specs.Quantities.{mark_text}
 use Rattle.apportionment.specs.inner.Tests.{cond_both}
 use Rattle.apportionment.specs.inner.Quantities.{largest_above, largest_below}
-use Rattle.departure.specs.declared.Answer.{Answer}
+use Rattle.apportionment.specs.declared.refusals.Refusal.{Refusal}
+use Rattle.departure.specs.declared.Shown.{Shown}
 use Rattle.departure.specs.Answer.{departure_refusal, departure_shown, departure_mark, shown_in, mark_in, AnswerIs}
 use Rattle.departure.specs.inner.Answer.{InLimits, accepted_exactly}
 use Rattle.apportionment.specs.inner.Decimal.{decimal_length}
@@ -27,7 +29,7 @@ unfolding Option-elim
 shown_or_none true s = refl
 shown_or_none false s = refl
 
-module _ {p a P H : ℕ} {answer : Answer} (within : InLimits p a P H) (is : AnswerIs p a P H answer) where
+module _ {p a P H : ℕ} {answer : Result (CodeOption Shown) Refusal} (within : InLimits p a P H) (is : AnswerIs p a P H answer) where
   not_refused : eqb (departure_refusal p a P H) accepted ≡ true
   not_refused = eq-eqb (departure_refusal p a P H) accepted ((accepted_exactly p a P H).1 within)
 

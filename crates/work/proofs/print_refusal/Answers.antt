@@ -1,16 +1,10 @@
 -- The page has room for the line of any two numbers.
-use Rattle.std.proofs.Common.{arith, sym, length-take-le}
-use Rattle.writing.specs.inner.Writing.{wrote_front}
+use Rattle.std.proofs.Common.{arith, rules}
 use Rattle.text.specs.inner.Bounds.{refusal_line_length}
+use Rattle.work.specs.inner.Way.{ends_on_page}
 use Rattle.work.proofs.print_refusal.Goals as goal
 
-pub slice_bounds-page-end : goal.slice_bounds-page-end
-slice_bounds-page-end g c =
-    (wrote_front c.put_refusal-size.ensures
-    (omega (arith, refusal_line_length c.args.number c.args.line (omega arith) (omega arith)))).within
-
-pub slice_bounds-print-end : goal.slice_bounds-print-end
-slice_bounds-print-end g c =
-    sym (length-take-le _ _
-    (wrote_front c.put_refusal-size.ensures
-    (omega (arith, refusal_line_length c.args.number c.args.line (omega arith) (omega arith)))).within)
+pub print_page-requires-clause-fits : goal.print_page-requires-clause-fits
+print_page-requires-clause-fits g c = λ size written returned.
+    let fits = refusal_line_length c.args.number c.args.line (omega arith) (omega arith) in
+    search (rules, ends_on_page)

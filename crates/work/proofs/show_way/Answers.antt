@@ -1,10 +1,17 @@
--- The start can be shown, and so can the placing that the steps end at.
-use Rattle.std.proofs.Common.{arith}
-use Rattle.work.specs.inner.Way.{on_the_way_shown, start_shown}
+-- The start can be shown, and so can the placing that the steps end at; the page has room for both.
+use Rattle.std.proofs.Common.{arith, rules}
+use Rattle.showing.specs.inner.Room.{start_fits, end_fits}
+use Rattle.work.specs.inner.Way.{ends_on_page, on_the_way_shown, start_shown}
 use Rattle.work.proofs.show_way.Goals as goal
 
-pub print_start-requires : goal.print_start-requires
-print_start-requires g c = start_shown c.requires
+pub print_page-requires : goal.print_page-requires
+print_page-requires g c =
+    let shown = start_shown c.requires in
+    let fits = start_fits shown in
+    record { callable = record { at = λ a. search rules }; fits = λ size written returned. search (rules, ends_on_page) }
 
-pub print_end-requires : goal.print_end-requires
-print_end-requires g c = on_the_way_shown c.requires _ (c.print_steps-walked.ensures c.if-walked.true) (omega arith)
+pub print_page-requires-2 : goal.print_page-requires-2
+print_page-requires-2 g c =
+    let shown = on_the_way_shown c.requires _ c.in_ok-end.ensures (omega arith) in
+    let fits = end_fits shown in
+    record { callable = record { at = λ a. search rules }; fits = λ size written returned. search (rules, ends_on_page) }

@@ -22,11 +22,11 @@ use Rattle.claims.specs.inner.LeastOfAll.{leximin_least_of_all}
 use Rattle.apportionment.specs.Allotment.{open_refusal}
 use Rattle.problem.specs.inner.Passed.{Openable, open_passed}
 use Rattle.departure.specs.inner.Answer.{InLimits}
-use Rattle.register.specs.Register.{reading_of}
+use Rattle.writing.specs.inner.Writing.{Wrote, wrote_front}
+use Rattle.register.specs.Register.{ReadingOutcome, reading_of}
 use Rattle.register.specs.Register.{rows_of, name_in_row}
 use Rattle.register.specs.inner.Sound.{ReadingSound, reading_sound}
 use Rattle.register.specs.inner.Rows.{name_limit, name_limited}
-use Rattle.register.specs.declared.Reading.{Reading}
 use Rattle.agreement.specs.inner.Agreement.{lex_within_house}
 use Rattle.placing.specs.Placing.{started, placing_at, opened_of, moved_of, people_of}
 use Rattle.placing.specs.inner.Lists.{take_padded}
@@ -37,6 +37,12 @@ use Rattle.placing.specs.declared.MovedOn.{MovedOn}
 use Rattle.showing.specs.Work.{seats_in, moved_at}
 use Rattle.showing.specs.inner.Work.{differ_at_a_place}
 use Rattle.showing.specs.inner.Showable.{total_limit, Showable, ShowableStep}
+
+-- ---- pages
+
+-- What was written and fits a page ends on it.
+pub ends_on_page : {a b s : List ℕ} {next : ℕ} → Wrote a 0 s b next → length s ≤ length a → next ≤ length b
+ends_on_page w fits = (wrote_front w fits).within
 
 -- ---- the way
 
@@ -211,7 +217,7 @@ start_begins rows ps H opens named =
     }
 
 -- What was read, and opened, neither of them refused.
-pub read_begins : (s : List ℕ) (r : Reading) (o : Placed) → r ≡ reading_of s → r.refusal ≡ accepted
+pub read_begins : (s : List ℕ) (r : ReadingOutcome) (o : Placed) → r ≡ reading_of s → r.refusal ≡ accepted
     → o ≡ opened_of (take r.states r.populations) r.house → o.refusal ≡ accepted → Begun (rows_of s) o.placing r.total
 unfolding opened_of
 read_begins s r o read good opened accepts =

@@ -1,10 +1,12 @@
 -- What every function that writes text promises: `Wrote`, for which one law joins what two calls in a row wrote. The last laws say what a
 -- finished text has left in the buffer.
 -- Assumes nothing.
-use Rattle.std.specs.Prelude.{◌≡◌, refl, List, [], ◌∷◌, ◌++◌, ℕ, suc, ◌+◌, ◌-◌, ◌<◌, ◌≤◌, min, leb, length, take, drop, set, get_or}
-use Rattle.std.proofs.Common.{sym, ap, ◌∙◌, add-zero, zero-add, add-one, arith, leb-true, leb-false, length-append, take-append-drop}
-use Rattle.std.proofs.Common.{take_at, take-suc, length-take-le}
-use Rattle.std.proofs.lemmas.List.Edits.{sets, sets-eq}
+use Rattle.std.specs.Prelude.{◌≡◌, refl, List, [], ◌∷◌, ◌++◌, ℕ, suc, ◌+◌, ◌-◌, ◌<◌, ◌≤◌, min, leb, length, take, drop, set}
+use Rattle.std.proofs.Common.{sym, ap, ◌∙◌, add-zero, zero-add, arith, leb-true, leb-false, length-append, append_assoc, take-append-drop}
+use Rattle.std.proofs.Common.{take_at, length-take-le}
+use borrow.Rule.Slice.PartMut.{put_mid}
+use Rattle.std.proofs.lemmas.List.Edits.{sets, sets-eq, paste_all}
+use Rattle.std.proofs.lemmas.Slice.{put_mid-paste}
 use Rattle.std.proofs.Math.Seq.{length-sets, set_out}
 use Rattle.apportionment.specs.inner.Tests.{either_way}
 
@@ -87,12 +89,12 @@ pub wrote_byte : (a : List ℕ) (at b : ℕ) → at < length a → Wrote a at (b
 unfolding laid place_after
 wrote_byte a at b within = record { bytes = refl; place = omega arith }
 
--- One byte more of a text, as a loop lays it.
-pub laid_byte : (a s : List ℕ) (at i : ℕ) → i < length s → set (laid a at (take i s)) (at + i) (get_or s i 0) ≡ laid a at (take (i + 1) s)
+-- A text copied over a part of the buffer that is as long is laid there.
+pub laid_copied : (a s : List ℕ) (at k : ℕ) → k ≡ length s → at + length s ≤ length a → put_mid at k a s ≡ laid a at s
 unfolding laid
-laid_byte a s at i inside =
-    let first : length (take i s) ≡ i = length-take-le i s (omega arith) in
-    sym (rw (add-one, take-suc s i 0 inside) (laid_append (take i s) (get_or s i 0 ∷ []) a at ∙ rw first))
+laid_copied a s at k all fits =
+    put_mid-paste at k a s s (length s) refl (sym all) refl ∙ paste_all a at s (length s) refl
+    ∙ sym (sets-eq s a at fits ∙ append_assoc (take at a) s (drop (at + length s) a))
 
 -- A text that fits was written once it is laid.
 pub wrote_laid : (a : List ℕ) (at : ℕ) (s : List ℕ) → at + length s ≤ length a → Wrote a at s (laid a at s) (at + length s)

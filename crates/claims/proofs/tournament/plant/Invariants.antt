@@ -1,10 +1,6 @@
--- `claims::tournament::plant` is right because at each turn the leaves passed hold their states.
-use Prim.Native.Nat.{◌≤◌, ◌-◌}
+-- `claims::tournament::plant` is right because at each turn the leaves passed hold their entrants.
 use Rattle.claims.specs.inner.TournamentReplay.{Planted}
 use Rattle.claims.proofs.tournament.plant.Given as goal
 
 abbrev pub invariant-loop-i : goal.invariant-loop-i
-invariant-loop-i l = (l.i ≤ l.states) × Planted l.states l.i l.tree
-
-abbrev pub decreases-loop-i : goal.decreases-loop-i
-decreases-loop-i l = l.states - l.i
+invariant-loop-i g l = Planted l.entrants l.i (g.E.Entry.numbers l.tree)

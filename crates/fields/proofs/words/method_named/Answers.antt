@@ -1,40 +1,26 @@
-use mathlib.Core.Path.{◌≡◌, sym, ◌∙◌}
-use mathlib.Core.Bool.{cond}
-use mathlib.Core.List.{List}
-use Prim.Native.Nat.{ℕ, ◌+◌}
-use native.Mathlib.Omega.{arith}
-use borrow.Author.Rules.{rules}
-use lib.ListN.{drop}
-use Rattle.apportionment.specs.Methods.{methods}
-use Rattle.fields.specs.Grammar.{first_named, method_named}
-use Rattle.fields.specs.declared.Named.{Named}
-use Rattle.fields.specs.declared.Named.TheVariants.{Known}
-use Rattle.fields.specs.inner.Grammar.{named_from, named_past}
+-- `method_named` looks for the first method whose word the field is.
+use Rattle.std.proofs.Common.{◌≡◌, ◌∙◌, sym, rules, tests, eqb, refl, Option, Some, None}
+use Rattle.std.specs.Option.{option_map}
+use Rattle.std.proofs.lemmas.Iterator.{YieldsList-from_slice}
+use Rattle.std.proofs.lemmas.Iterator.Consumers.{YieldsList-from_copied}
+use Rattle.std.proofs.lemmas.Iterator.Search.{find_from_yields_List}
+use lib.Pointwise.{pointwise}
+use Rattle.apportionment.specs.Methods.{methods, method_text}
+use Rattle.apportionment.specs.declared.Method.{Method}
+use Rattle.fields.specs.Grammar.{method_named}
+use Rattle.fields.specs.inner.Grammar.{first_named_is}
+use Rattle.fields.specs.inner.Parts.{same_is}
 use Rattle.fields.proofs.words.method_named.Goals as goal
-use Rattle.fields.proofs.words.method_named.Goals.{After-same, At-loop-number}
 
-pub loop-number-init : goal.loop-number-init
-unfolding method_named
-loop-number-init c = search rules
-
--- The field, and what it names among the methods after the one reached.
-abbrev field : At-loop-number → List ℕ
-field c = c.args.f.now
-
-abbrev later : At-loop-number → Named
-later c = first_named (field c) (drop (c.loop-number.number + 1) methods)
-
--- A turn compares the field with the word of the method reached.
-turn : (c : After-same) → method_named (field (goal.at.After-same c).At-loop-number)
-    ≡ cond c.same.result (Known c.at-method.result) (later (goal.at.After-same c).At-loop-number)
-turn c = rw (c.same.ensures, c.word.ensures, c.at-method.ensures)
-    (c.loop-number.invariant.1 ∙ named_from (field (goal.at.After-same c).At-loop-number) c.loop-number.number (omega arith))
-
-pub returns-then-same : goal.returns-then-same
-returns-then-same c = sym (rw c.if-same.true at (turn (goal.at.returns-then-same c).After-same))
-
-pub loop-number-preserved : goal.loop-number-preserved
-loop-number-preserved c = (search rules, rw c.if-same.false at (turn (goal.at.loop-number-preserved c).After-same))
+unchanged : {A : Type 0} (o : Option A) → option_map (λ (x : A). x) o ≡ o
+unchanged None = refl
+unchanged (Some x) = refl
 
 pub returns : goal.returns
-returns c = sym (c.loop-number.invariant.1 ∙ named_past (field (goal.at.returns c).At-loop-number) c.loop-number.number (omega arith))
+unfolding method_named
+returns c =
+    let f = c.args.f.now in
+    let found =
+    find_from_yields_List (λ (m : Method). pointwise eqb f (method_text m)) _ _ c.find.result c.find.ensures.ran
+    (YieldsList-from_copied (YieldsList-from_slice methods cc)) (λ x b q k. search (rules, tests)) in
+    sym (unchanged c.find.result) ∙ found ∙ first_named_is _ f (λ m. same_is f (method_text m)) methods

@@ -1,18 +1,11 @@
-use mathlib.Core.Path.{sym, ◌∙◌}
+use Rattle.std.proofs.Common.{sym, ◌∙◌, arith}
 use Rattle.lines.specs.inner.Fingerprints.{holds_step, holds_end}
-use native.Mathlib.Omega.{arith}
 use Rattle.lines.proofs.fingerprints.holds.Goals as goal
 
-pub loop-i-preserved : goal.loop-i-preserved
-loop-i-preserved c = (
-  omega arith,
-  c.loop-i.invariant.1
-      ∙ holds_step c.loop-i.found c.args.print
-      c.args.prints.now c.loop-i.i (omega arith),
-)
+pub loop-other-preserved : goal.loop-other-preserved
+loop-other-preserved c =
+    c.loop-other.invariant ∙ holds_step c.loop-other.found c.args.print c.args.prints.now c.loop-other.other-index (omega arith)
 
 pub returns : goal.returns
 returns c =
-    sym
-    (c.loop-i.invariant.1 ∙ holds_end c.loop-i.found c.args.print
-    c.args.prints.now c.loop-i.i (omega arith))
+    sym (c.loop-other.invariant ∙ holds_end c.loop-other.found c.args.print c.args.prints.now c.loop-other.other-index (omega arith))

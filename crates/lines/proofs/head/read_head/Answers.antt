@@ -44,7 +44,7 @@ formed c = c.is_head.ensures
 
 pub returns-then-not-is_head : goal.returns-then-not-is_head
 returns-then-not-is_head c =
-    c.refused.ensures ∙ simp (head_by_parts, sym (formed (goal.at.returns-then-not-is_head c).After-is_head) ∙ c.if-not-is_head.true)
+    simp (head_by_parts, sym (formed (goal.at.returns-then-not-is_head c).After-is_head) ∙ c.if-not-is_head.true)
 
 pub value-requires : goal.value-requires
 value-requires c =

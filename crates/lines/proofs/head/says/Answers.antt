@@ -6,20 +6,18 @@ use Rattle.lines.proofs.head.says.Goals as goal
 
 pub returns-in_default : goal.returns-in_default
 unfolding head_says is_unknown
-returns-in_default c = c.refused.ensures ∙ simp c.in_default.is
+returns-in_default c = simp c.in_default.is
 
 pub returns-then-outside : goal.returns-then-outside
 unfolding head_says is_unknown
 returns-then-outside c =
-    c.refused-then-outside.ensures
-    ∙ simp (c.in-Known.is, sym c.outside.ensures ∙ c.if-outside.true)
+    simp (c.in-Some.is, sym c.outside.ensures ∙ c.if-outside.true)
 
 pub returns-then-outside-2 : goal.returns-then-outside-2
 unfolding head_says is_unknown
 returns-then-outside-2 c =
-    c.refused-then-outside-2.ensures
-    ∙ simp (
-      c.in-Known.is,
+    simp (
+      c.in-Some.is,
       sym c.outside.ensures ∙ c.if-outside.false,
       sym c.outside-2.ensures ∙ c.if-outside-2.true,
     )
@@ -28,7 +26,7 @@ pub returns : goal.returns
 unfolding head_says is_unknown head_read method_in
 returns c =
     simp (
-      c.in-Known.is,
+      c.in-Some.is,
       sym c.outside.ensures ∙ c.if-outside.false,
       sym c.outside-2.ensures ∙ c.if-outside-2.false,
     )

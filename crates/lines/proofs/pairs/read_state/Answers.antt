@@ -1,16 +1,17 @@
 -- `read_state` cuts the line once and makes the checks over its parts. What the parts and the answers are stands first.
 use mathlib.Core.Path.{◌≡◌, sym, ap, ap₂, ◌∙◌}
-use mathlib.Core.Bool.{true}
 use mathlib.Core.List.{List}
 use Prim.Native.Nat.{ℕ}
 use Rattle.fields.specs.Grammar.{all_between}
 use Rattle.fields.specs.Grammar.{field_of, fields_after, value_of, is_name}
-use Rattle.lines.specs.Lines.{name_at, number_field, number_at, used_in, is_state_line}
-use Rattle.lines.specs.inner.Lines.{entry_refusal, state_parts, same_pair}
+use Rattle.lines.specs.Lines.{name_at, number_field, number_at, used_in, is_state_line, state_refusal}
+use Rattle.apportionment.specs.Refusals.{refusal_of}
+use Rattle.std.proofs.Common.{rules, length, Err}
+use Rattle.lines.specs.inner.Lines.{entry_refusal, state_parts, state_by_parts, same_pair}
 use Rattle.lines.specs.inner.Fingerprints.{fingerprint_of, field_end, field_plain, field_print}
-use Rattle.lines.specs.inner.Cut.{line_refused, line_by_parts, line_ill_formed_lem, line_refused_lem, line_accepted}
+use Rattle.lines.specs.inner.Cut.{line_by_parts}
 use Rattle.lines.proofs.pairs.read_state.Goals as goal
-use Rattle.lines.proofs.pairs.read_state.Goals.{After-entry_refusal-refusal, After-fields_from-digits, After-is_pair}
+use Rattle.lines.proofs.pairs.read_state.Goals.{After-check_entry, After-fields_from-digits, After-is_pair}
 use Rattle.lines.proofs.pairs.read_state.Goals.{After-value-population}
 
 -- The bytes from the line on.
@@ -49,15 +50,16 @@ population_is c = c.value-population.ensures ∙ ap value_of (digits_are (cut c)
 abbrev refusal_at : After-value-population → ℕ
 refusal_at c =
     let a = c.args in
-    entry_refusal (used_in a.k a.first.now (name_at a.s.now)) a.sum (number_at a.s.now)
+    entry_refusal (used_in (length a.names.prints.now) a.names.first.now (name_at a.s.now)) a.sum (number_at a.s.now)
 
-refusal_is : (c : After-entry_refusal-refusal) → c.entry_refusal-refusal.result
-    ≡ refusal_at (goal.at.After-entry_refusal-refusal c).After-value-population
-refusal_is c = let a = c.args in
-    c.entry_refusal-refusal.ensures
-    ∙ ap₂ (λ used p. entry_refusal used a.sum p)
-    (c.is_used-used.ensures ∙ ap (used_in a.k a.first.now) (name_is (cut (goal.at.After-entry_refusal-refusal c).After-value-population)))
-    (population_is (goal.at.After-entry_refusal-refusal c).After-value-population)
+refusal_is : (c : After-check_entry) → refusal_of c.check_entry.result ≡ refusal_at (goal.at.After-check_entry c).After-value-population
+refusal_is c =
+    let names = c.args.names in
+    let line = (goal.at.After-check_entry c).After-value-population in
+    c.check_entry.ensures
+    ∙ ap₂ (λ used p. entry_refusal used c.args.sum p)
+    (c.hold.ensures ∙ ap (used_in (length names.prints.now) names.first.now) (name_is (cut line)))
+    (population_is line)
 
 pub field_to-name-requires : goal.field_to-name-requires
 field_to-name-requires c = ap (λ f. f.end) c.read_field-field.ensures ∙ field_end _
@@ -71,39 +73,38 @@ is_name-requires c =
     ∙ field_plain _
     ∙ ap (all_between 32 126) (sym c.field_to-name.ensures)
 
-pub returns-then-not-is_pair : goal.returns-then-not-is_pair
-returns-then-not-is_pair c =
-    c.refused.ensures ∙ sym
-    (line_ill_formed_lem _ _ _ _ (sym (formed (goal.at.returns-then-not-is_pair c).After-is_pair) ∙ c.if-not-is_pair.true))
+pub returns-then-not-is_pair-clause-refusal : goal.returns-then-not-is_pair-clause-refusal
+returns-then-not-is_pair-clause-refusal c =
+    let ill = sym (formed (goal.at.returns-then-not-is_pair-clause-refusal c).After-is_pair) ∙ c.if-not-is_pair.true in
+    sym (state_by_parts _ _ _ _ ∙ rw ill)
 
 pub value-population-requires : goal.value-population-requires
 value-population-requires c =
     rw (digits_are (goal.at.value-population-requires c).After-fields_from-digits)
     (state_parts _ (sym (formed (goal.at.value-population-requires c).After-is_pair) ∙ c.if-not-is_pair.false)).1
 
-pub is_used-used-requires : goal.is_used-used-requires
-is_used-used-requires c =
-    (c.requires.1, print_is (goal.at.is_used-used-requires c).After-fields_from-digits)
+pub hold-requires : goal.hold-requires
+hold-requires c = print_is (goal.at.hold-requires c).After-fields_from-digits
 
-pub entry_refusal-refusal-requires : goal.entry_refusal-refusal-requires
-entry_refusal-refusal-requires c = c.requires.0
+-- The line is well-formed where the population is known, and so is refused as its parts are.
+by_parts : (c : After-check_entry)
+    → state_refusal c.args.names.first.now (length c.args.names.prints.now) c.args.sum c.args.s.now ≡ refusal_of c.check_entry.result
+by_parts c =
+    let line = goal.at.After-value-population (goal.at.After-check_entry c).After-value-population in
+    let formed_there = sym (formed line.After-is_pair) ∙ c.if-not-is_pair.false in
+    state_by_parts _ _ _ _ ∙ rw formed_there (sym (refusal_is c))
 
--- The line is well-formed where the population is known.
-formed_there : (c : After-value-population) → is_state_line (bytes (cut c)) ≡ true
-formed_there c = (sym (formed (goal.at.After-value-population c).After-is_pair) ∙ c.if-not-is_pair.false)
+pub returns-in_err-check_entry-clause-refusal : goal.returns-in_err-check_entry-clause-refusal
+returns-in_err-check_entry-clause-refusal c =
+    let given : c.from_residual.result ≡ Err c.in_err-check_entry.field-0.0 = search rules in
+    rw given
+    (sym (by_parts (goal.at.returns-in_err-check_entry-clause-refusal c).After-check_entry ∙ ap refusal_of c.in_err-check_entry.was))
 
-pub returns-then-refusal-ne0 : goal.returns-then-refusal-ne0
-returns-then-refusal-ne0 c =
-    c.refused-then-refusal-ne0.ensures
-    ∙ ap line_refused (refusal_is (goal.at.returns-then-refusal-ne0 c).After-entry_refusal-refusal)
-    ∙ sym
-    (line_refused_lem _ _ _ _ (formed_there (goal.at.returns-then-refusal-ne0 c).After-value-population)
-    (λ good. c.if-refusal-ne0.true (refusal_is (goal.at.returns-then-refusal-ne0 c).After-entry_refusal-refusal ∙ good)))
+pub returns-clause-refusal : goal.returns-clause-refusal
+returns-clause-refusal c =
+    sym (by_parts (goal.at.returns-clause-refusal c).After-check_entry ∙ ap refusal_of c.in_ok-check_entry.was)
 
-pub returns : goal.returns
-returns c =
-    line_by_parts _ _ (population_is (goal.at.returns c).After-value-population)
-    (print_is (cut (goal.at.returns c).After-value-population)) (name_is (cut (goal.at.returns c).After-value-population))
-    c.line_end-end.ensures
-    ∙ sym (line_accepted _ _ _ _ (formed_there (goal.at.returns c).After-value-population)
-    (sym (refusal_is (goal.at.returns c).After-entry_refusal-refusal) ∙ c.if-refusal-ne0.false))
+pub returns-clause-read : goal.returns-clause-read
+returns-clause-read c =
+    let line = (goal.at.returns-clause-read c).After-value-population in
+    line_by_parts _ _ (population_is line) (print_is (cut line)) (name_is (cut line)) c.line_end-end.ensures

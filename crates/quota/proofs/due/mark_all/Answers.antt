@@ -17,9 +17,6 @@ pub loop-i-preserved : goal.loop-i-preserved
 loop-i-preserved c =
     marked_to_more c.requires.problem.0 c.requires.wholes_value c.loop-i.invariant c.loop-i-test.true c.mark.ensures
 
-pub shape_of-due : goal.shape_of-due
-shape_of-due c = c.loop-i.invariant.long
-
 pub returns : goal.returns
 returns c =
     all_ready c.loop-i.invariant c.loop-i-test.false

@@ -1,64 +1,43 @@
 use native.Mathlib.Omega.{arith}
 use lib.ListN.{get_or}
-use Rattle.quota.specs.inner.Play.{turn_entries, outer_within, arrival_lt, arrivals_long_lem}
-use Rattle.quota.specs.inner.Play.{ranking_long_lem, turn_admitted, none_due_lem}
+use Rattle.quota.specs.inner.Play.{turn_entries, outer_within, arrival_lt}
+use Rattle.quota.specs.inner.Play.{turn_admitted, none_due_lem}
 use Rattle.quota.proofs.rounds.admit.Goals as goal
 
-pub loop-outers-init : goal.loop-outers-init
-loop-outers-init c =
+pub loop-outside-init : goal.loop-outside-init
+loop-outside-init c =
     c.requires
 
-pub bounds-arrivals-1 : goal.bounds-arrivals-1
-bounds-arrivals-1 c =
-    omega (arith, arrivals_long_lem c.loop-outers.invariant, c.loop-outers.invariant.problem.states.some_state)
+pub offset_bounds-outside-first : goal.offset_bounds-outside-first
+offset_bounds-outside-first c =
+    omega (arith, c.first.ensures, arrival_lt c.loop-outside.invariant, c.loop-outside.invariant.problem.states.states_within)
 
-pub offset_bounds-outers-arrivals : goal.offset_bounds-outers-arrivals
-offset_bounds-outers-arrivals c =
-    omega (arith, arrival_lt c.loop-outers.invariant, c.loop-outers.invariant.problem.states.states_within)
+pub bounds-outside-first : goal.bounds-outside-first
+bounds-outside-first c =
+    omega (arith, c.first.ensures, arrival_lt c.loop-outside.invariant, c.loop-outside.invariant.staged.outers_long)
 
-pub bounds-outers-arrivals : goal.bounds-outers-arrivals
-bounds-outers-arrivals c =
-    omega (arith, arrival_lt c.loop-outers.invariant, c.loop-outers.invariant.staged.outers_long)
-
-pub overflow_add-outers : goal.overflow_add-outers
-overflow_add-outers c =
-    omega (
-      arith,
-      outer_within c.loop-outers.invariant.staged (get_or c.loop-outers.arrivals 1 0) (arrival_lt c.loop-outers.invariant),
-      c.loop-outers.invariant.inside,
-      c.loop-outers.invariant.problem.house_within,
-    )
+pub overflow_add-outside : goal.overflow_add-outside
+overflow_add-outside c =
+    let t = c.loop-outside.invariant in
+    rw c.first.ensures
+    (omega (arith, outer_within t.staged (get_or c.loop-outside.outside.tree.now 1 0) (arrival_lt t), t.inside, t.problem.house_within))
 
 pub admit_one-requires : goal.admit_one-requires
-admit_one-requires c =
-    turn_entries c.loop-outers.invariant
+admit_one-requires c = turn_entries c.loop-outside.invariant
 
-pub loop-outers-smaller : goal.loop-outers-smaller
-loop-outers-smaller c =
+pub loop-outside-smaller : goal.loop-outside-smaller
+loop-outside-smaller c =
     let one = c.admit_one.ensures in
-    (turn_admitted c.loop-outers.invariant (omega (arith, c.loop-outers-test.true)) one.one_admitted one.played).1
+    let due = rw c.first.ensures at c.loop-outside-test.true in
+    (turn_admitted c.loop-outside.invariant (omega (arith, due)) one.one_admitted one.played).1
 
-pub loop-outers-preserved : goal.loop-outers-preserved
-loop-outers-preserved c =
+pub loop-outside-preserved : goal.loop-outside-preserved
+loop-outside-preserved c =
     let one = c.admit_one.ensures in
-    (turn_admitted c.loop-outers.invariant (omega (arith, c.loop-outers-test.true)) one.one_admitted one.played).0
-
-pub shape_of-outers : goal.shape_of-outers
-shape_of-outers c =
-    omega (arith, c.loop-outers.invariant.staged.outers_long, c.requires.staged.outers_long)
-
-pub shape_of-arrivals : goal.shape_of-arrivals
-shape_of-arrivals c =
-    omega (arith, arrivals_long_lem c.loop-outers.invariant, arrivals_long_lem c.requires)
-
-pub shape_of-keys : goal.shape_of-keys
-shape_of-keys c =
-    omega (arith, c.loop-outers.invariant.staged.keys_long, c.requires.staged.keys_long)
-
-pub shape_of-ranking : goal.shape_of-ranking
-shape_of-ranking c =
-    omega (arith, ranking_long_lem c.loop-outers.invariant, ranking_long_lem c.requires)
+    let due = rw c.first.ensures at c.loop-outside-test.true in
+    (turn_admitted c.loop-outside.invariant (omega (arith, due)) one.one_admitted one.played).0
 
 pub returns : goal.returns
 returns c =
-    none_due_lem c.loop-outers.invariant (omega (arith, c.loop-outers-test.false))
+    let late = rw c.first.ensures at c.loop-outside-test.false in
+    none_due_lem c.loop-outside.invariant (omega (arith, late))

@@ -4,9 +4,9 @@ use Rattle.apportionment.specs.Lists.{sum}
 use Rattle.quota.specs.inner.Play.{Turn}
 use Rattle.quota.proofs.rounds.admit.Given as goal
 
-abbrev pub invariant-loop-outers : goal.invariant-loop-outers
-invariant-loop-outers l =
-    Turn l.populations l.house l.passed l.seats l.outers l.arrivals l.keys l.ranking
+abbrev pub invariant-loop-outside : goal.invariant-loop-outside
+invariant-loop-outside l =
+    Turn l.populations l.house l.passed l.seats l.outside.keys.now l.outside.tree.now l.waiting.keys.now l.waiting.tree.now
 
-abbrev pub decreases-loop-outers : goal.decreases-loop-outers
-decreases-loop-outers l = sum l.outers
+abbrev pub decreases-loop-outside : goal.decreases-loop-outside
+decreases-loop-outside l = sum l.outside.keys.now

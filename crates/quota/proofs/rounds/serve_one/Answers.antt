@@ -13,14 +13,14 @@ pub give-requires : goal.give-requires
 give-requires c =
     can_give c.requires.turn.problem c.requires.turn.inside c.requires.turn.seats_within c.admit.ensures
 
-pub returns-then-waiting-eq0 : goal.returns-then-waiting-eq0
-returns-then-waiting-eq0 c =
+pub returns-then-due-eq0 : goal.returns-then-due-eq0
+returns-then-due-eq0 c =
     let given =
     given_by_turn c.requires.turn.problem c.requires.turn.inside c.requires.turn.seats_within c.admit.ensures
-    c.if-waiting-eq0.true c.requires.owed c.give.ensures.seats_after c.give.ensures.keys_after c.give.ensures.played in
-    record { value = omega (arith, c.if-waiting-eq0.true); seats_after = given.0; in_play = given.1 }
+    c.if-due-eq0.true c.requires.owed c.give.ensures.seats_after c.give.ensures.keys_after c.give.ensures.played in
+    record { value = omega (arith, c.if-due-eq0.true); seats_after = given.0; in_play = given.1 }
 
 pub returns : goal.returns
 returns c =
-    let first = part_goes_first c.if-waiting-eq0.false c.requires.turn in
+    let first = part_goes_first c.if-due-eq0.false c.requires.turn in
     record { value = refl; seats_after = first.0; in_play = first.1 }

@@ -1,6 +1,6 @@
 use native.Mathlib.Nat.{le_trans}
 use Rattle.apportionment.specs.inner.Problem.{entry_at_most_total}
-use mathlib.Core.Path.{◌∙◌, sym}
+use mathlib.Core.Path.{◌∙◌}
 use native.Mathlib.Omega.{arith}
 use Rattle.apportionment.specs.inner.Filling.{fill_starts, fill_goes_on, fill_ends}
 use Rattle.quota.specs.inner.Marks.{wholes_long}
@@ -10,21 +10,9 @@ use Rattle.quota.proofs.start.fill_keys.Goals as goal
 pub loop-i-init : goal.loop-i-init
 loop-i-init c = fill_starts _ _ _ c.requires.0.same_length
 
-pub bounds-wholes-i : goal.bounds-wholes-i
-bounds-wholes-i c =
-    omega (
-      arith,
-      c.loop-i-test.true,
-      wholes_long c.requires.0.problem c.requires.1 c.loop-i.i c.loop-i-test.true,
-    )
-
 pub first_key-requires : goal.first_key-requires
 first_key-requires c =
     le_trans (entry_at_most_total c.requires.0.problem.states c.loop-i.i) c.requires.0.problem.states.sum_within
-
-pub bounds-keys-i : goal.bounds-keys-i
-bounds-keys-i c =
-    omega (arith, c.loop-i-test.true, c.loop-i.invariant.long)
 
 pub loop-i-preserved : goal.loop-i-preserved
 loop-i-preserved c =
@@ -32,9 +20,9 @@ loop-i-preserved c =
     (c.first_key.ensures ∙ first_key_is c.requires.0.problem c.requires.1 c.loop-i.i c.loop-i-test.true)
     c.loop-i.invariant
 
-pub shape_of-keys : goal.shape_of-keys
-shape_of-keys c =
-    c.loop-i.invariant.long ∙ sym c.requires.0.same_length
+pub bounds-wholes-i : goal.bounds-wholes-i
+bounds-wholes-i c =
+    omega (arith, c.loop-i-test.true, wholes_long c.requires.0.problem c.requires.1 c.loop-i.i c.loop-i-test.true)
 
 pub returns : goal.returns
 returns c =

@@ -1,4 +1,4 @@
-use mathlib.Core.Path.{◌∙◌, sym}
+use mathlib.Core.Path.{◌∙◌}
 use native.Mathlib.Omega.{arith}
 use Rattle.apportionment.specs.inner.Filling.{fill_starts, fill_goes_on, fill_ends}
 use Rattle.quota.specs.inner.Marks.{wholes_long}
@@ -8,21 +8,9 @@ use Rattle.quota.proofs.start.fill_outers.Goals as goal
 pub loop-i-init : goal.loop-i-init
 loop-i-init c = fill_starts _ _ _ c.requires.0.same_length
 
-pub bounds-wholes-i : goal.bounds-wholes-i
-bounds-wholes-i c =
-    omega (
-      arith,
-      c.loop-i-test.true,
-      wholes_long c.requires.0.problem c.requires.1 c.loop-i.i c.loop-i-test.true,
-    )
-
 pub outer_of-requires : goal.outer_of-requires
 outer_of-requires c =
     entry_fits c.requires.0.problem c.requires.1 c.loop-i.i c.loop-i-test.true
-
-pub bounds-outers-i : goal.bounds-outers-i
-bounds-outers-i c =
-    omega (arith, c.loop-i-test.true, c.loop-i.invariant.long)
 
 pub loop-i-preserved : goal.loop-i-preserved
 loop-i-preserved c =
@@ -30,9 +18,9 @@ loop-i-preserved c =
     (c.outer_of.ensures ∙ outer_is c.requires.0.problem c.requires.1 c.loop-i.i c.loop-i-test.true)
     c.loop-i.invariant
 
-pub shape_of-outers : goal.shape_of-outers
-shape_of-outers c =
-    c.loop-i.invariant.long ∙ sym c.requires.0.same_length
+pub bounds-wholes-i : goal.bounds-wholes-i
+bounds-wholes-i c =
+    omega (arith, c.loop-i-test.true, wholes_long c.requires.0.problem c.requires.1 c.loop-i.i c.loop-i-test.true)
 
 pub returns : goal.returns
 returns c =

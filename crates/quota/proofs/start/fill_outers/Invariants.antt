@@ -1,5 +1,4 @@
 -- `quota::start::fill_outers` meets its contract. The loop's invariant: the states passed have their entries.
-use Prim.Native.Nat.{◌-◌}
 use lib.ListN.{length}
 use Rattle.apportionment.specs.inner.Filling.{FilledTo}
 use Rattle.quota.specs.inner.Play.{outer_of}
@@ -7,6 +6,3 @@ use Rattle.quota.proofs.start.fill_outers.Given as goal
 
 abbrev pub invariant-loop-i : goal.invariant-loop-i
 invariant-loop-i l = FilledTo (outer_of l.populations l.house) (length l.populations) l.i l.outers
-
-abbrev pub decreases-loop-i : goal.decreases-loop-i
-decreases-loop-i l = length l.populations - l.i

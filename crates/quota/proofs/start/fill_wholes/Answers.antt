@@ -1,4 +1,3 @@
-use mathlib.Core.Path.{◌∙◌, sym}
 use native.Mathlib.Omega.{arith}
 use Rattle.apportionment.specs.inner.Problem.{sum_above_zero}
 use Rattle.apportionment.specs.inner.Filling.{fill_starts, fill_goes_on, fill_ends}
@@ -15,17 +14,9 @@ overflow_mul-seats c =
 pub nonzero_div-seats : goal.nonzero_div-seats
 nonzero_div-seats c = omega (arith, sum_above_zero c.requires.problem.states)
 
-pub bounds-seats-i : goal.bounds-seats-i
-bounds-seats-i c =
-    omega (arith, c.loop-i-test.true, c.loop-i.invariant.long)
-
 pub loop-i-preserved : goal.loop-i-preserved
 loop-i-preserved c =
     fill_goes_on _ _ _ _ _ c.loop-i-test.true (whole_part_is c.requires.problem c.loop-i.i) c.loop-i.invariant
-
-pub shape_of-seats : goal.shape_of-seats
-shape_of-seats c =
-    c.loop-i.invariant.long ∙ sym c.requires.same_length
 
 pub returns : goal.returns
 returns c =

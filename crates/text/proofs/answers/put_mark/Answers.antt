@@ -1,19 +1,21 @@
 -- `text::answers::put_mark` meets its contract: each arm writes the word of its answer's mark.
-use mathlib.Core.Option.{Option-elim}
+use Rattle.std.proofs.Common.{◌≡◌, Ok, Some, None, rules}
+use Rattle.std.proofs.Math.Option.{Option-elim}
 use Rattle.departure.specs.Answer.{mark_in}
 use Rattle.text.proofs.answers.put_mark.Goals as goal
 
-pub returns-in-Refused : goal.returns-in-Refused
+pub returns-in-Ok-Some : goal.returns-in-Ok-Some
 unfolding mark_in Option-elim
-returns-in-Refused c =
-    rw c.in-Refused.is c.put_bytes.ensures
+returns-in-Ok-Some c =
+    let is : c.args.answer ≡ Ok (Some c.in-Ok-Some.exact) = search rules in
+    rw is c.put_mark.ensures
 
-pub returns-in-NoSeats : goal.returns-in-NoSeats
+pub returns-in-Ok-None : goal.returns-in-Ok-None
 unfolding mark_in Option-elim
-returns-in-NoSeats c =
-    rw c.in-NoSeats.is c.put_mark.ensures
+returns-in-Ok-None c =
+    let is : c.args.answer ≡ Ok None = search rules in
+    rw is c.put_mark-in-Ok-None.ensures
 
-pub returns-in-Shown : goal.returns-in-Shown
+pub returns-in-Err : goal.returns-in-Err
 unfolding mark_in Option-elim
-returns-in-Shown c =
-    rw c.in-Shown.is c.put_mark-in-Shown.ensures
+returns-in-Err c = rw c.in-Err.is c.put_bytes.ensures

@@ -1,7 +1,0 @@
--- `upto` is a part that starts where the bytes do.
-use mathlib.Core.Path.{sym}
-use lib.Seq.{length-take-le}
-use Rattle.fields.proofs.parts.upto.Goals as goal
-
-pub slice_bounds-result-end : goal.slice_bounds-result-end
-slice_bounds-result-end c = sym (length-take-le _ _ c.requires)

@@ -1,8 +1,0 @@
--- `placing::refused_opening` meets its contract: lists of zeros are empty lists filled up.
-use borrow.Author.Rules.{rules}
-use Rattle.placing.specs.Placing.{empty_placing, padded}
-use Rattle.placing.proofs.refused_opening.Goals as goal
-
-pub returns : goal.returns
-unfolding empty_placing padded
-returns c = search rules

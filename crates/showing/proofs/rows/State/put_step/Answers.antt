@@ -1,0 +1,11 @@
+-- `showing::rows::State::put_step` meets its contract: its pieces, one after the other.
+use Rattle.showing.specs.Work.{step_line}
+use Rattle.writing.specs.inner.Page.{appended_then}
+use Rattle.showing.proofs.rows.State.put_step.Goals as goal
+
+pub returns : goal.returns
+unfolding step_line
+returns c =
+    let begun = appended_then (appended_then c.put_bytes.ensures c.put_decimal.ensures) c.put_verb.ensures in
+    let more = appended_then (appended_then begun c.put_moved.ensures) c.put_byte.ensures in
+    appended_then (appended_then more c.put_decimal-2.ensures) c.put_byte-2.ensures
