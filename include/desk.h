@@ -46,13 +46,13 @@ extern "C" {
 /* The stack that each operation takes at most, in bytes, what is handed back by value included: a
    thread with 256 KiB is safe for any of them. Measured on x86-64 Linux by painting the stack, at the
    limits and on refusals; the gate measures it again (.ci/stack.c). Nothing else is allocated. */
-#define DESK_READ_STACK (58 * 1024)
+#define DESK_READ_STACK (52 * 1024)
 #define DESK_ALLOT_STACK (112 * 1024)
 #define DESK_OPEN_STACK (39 * 1024)
-#define DESK_MOVE_STACK (36 * 1024)
+#define DESK_MOVE_STACK (24 * 1024)
 #define DESK_DEPARTURE_STACK 128
 #define DESK_LISTING_STACK (200 * 1024)
-#define DESK_CLEAN_STACK (76 * 1024)
+#define DESK_CLEAN_STACK (56 * 1024)
 #define DESK_NAME_STACK (36 * 1024)
 
 /* The refusals by name, DESK_REFUSED_TOTAL_DIFFERS and so on, from the list in desk_refusals.h; and 0,

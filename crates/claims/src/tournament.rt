@@ -93,7 +93,7 @@ impl Entry for u16 {
 }
 
 // Puts each entrant at its leaf.
-fn plant<E: Entry>(entrants: usize, tree: &mut [E])
+pub fn plant<E: Entry>(entrants: usize, tree: &mut [E])
     requires size { length tree.old ≡ 2 * entrants }
     requires fits { entrants ≤ E.limit }
     ensures { Planted entrants entrants (E.numbers tree.new) }

@@ -55,32 +55,33 @@ fn put_states(page: &mut Page, rows: &[u8], places: &[NamePlace], populations: &
 }
 
 // The whole clean form of what was read, from the front of the buffer on; the place after it.
-fn put_clean(out: &mut [u8], reading: Reading, rows: &[u8], places: &[NamePlace]) -> usize
-    requires cleanable { Cleanable (reading_outcome (Ok reading)) (name_in_row rows.now) }
-    requires placed { Placed reading.states rows.now places.now }
-    ensures { Wrote out.old 0 (clean_in (reading_outcome (Ok reading)) (name_in_row rows.now)) out.new result }
+fn put_clean(out: &mut [u8], reading: &Reading, rows: &[u8], places: &[NamePlace]) -> usize
+    requires cleanable { Cleanable (reading_outcome (Ok reading.now)) (name_in_row rows.now) }
+    requires placed { Placed reading.now.states rows.now places.now }
+    ensures { Wrote out.old 0 (clean_in (reading_outcome (Ok reading.now)) (name_in_row rows.now)) out.new result }
 {
     let n = reading.states;
     let method = reading.method;
-    let populations = reading.populations;
     let mut page = Page::new(out);
     text::put_head(&mut page, b"register", method, reading.house, n as u64);
-    put_states(&mut page, rows, places, &populations[..n]);
+    put_states(&mut page, rows, places, &reading.populations[..n]);
     put_pair(&mut page, b"total", reading.total);
     page.place()
 }
 
-// Writes the clean form of what was read on a page of ROOM bytes, which has room for it, and hands it over to the buffer, if it fits.
+// Writes the clean form of what was read on a page of ROOM bytes, which has room for it, and hands it over to the buffer, if it fits. It
+// stays a function of its own, so that only the page that is written on lies on the stack.
+#[inline(never)]
 fn copy_by<const ROOM: usize>(
-    reading: Reading,
+    reading: &Reading,
     rows: &[u8],
     places: &[NamePlace],
     out: &mut [u8],
 ) -> Result<usize, Refused>
-    requires cleanable { Cleanable (reading_outcome (Ok reading)) (name_in_row rows.now)
-        × (room_for reading.states ≤ ROOM) × (ROOM ≤ clean_room) }
-    requires placed { Placed reading.states rows.now places.now }
-    ensures { WritingIs accepted 0 (clean_in (reading_outcome (Ok reading)) (name_in_row rows.now))
+    requires cleanable { Cleanable (reading_outcome (Ok reading.now)) (name_in_row rows.now)
+        × (room_for reading.now.states ≤ ROOM) × (ROOM ≤ clean_room) }
+    requires placed { Placed reading.now.states rows.now places.now }
+    ensures { WritingIs accepted 0 (clean_in (reading_outcome (Ok reading.now)) (name_in_row rows.now))
         out.old (written_in result) out.new }
 {
     let mut page = [0u8; ROOM];
@@ -94,7 +95,12 @@ pub fn write_clean(register: &[u8], out: &mut [u8]) -> Result<usize, Refused>
     ensures { CleanIs register.now out.old (written_in result) out.new }
 {
     let mut places = [NamePlace { start: 0, end: 0 }; STATE_LIMIT];
-    let reading = register::read_places(register, &mut places[..])?;
+    // The reading is looked at where it lies: by `?` it would be copied.
+    let read = register::read_places(register, &mut places[..]);
+    let reading = match &read {
+        Ok(reading) => reading,
+        Err(refused) => return Err(*refused),
+    };
     let rows = rows::of(register);
     if reading.states <= FEW_STATES {
         return copy_by::<FEW_ROOM>(reading, rows, &places[..], out);

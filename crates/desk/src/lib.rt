@@ -70,29 +70,31 @@ pub struct DeskPart {
 impl From<Result<Reading, Refused>> for DeskReading {
     ghost from_gives = { λ outcome exported. exported ≡ exported_reading (reading_outcome outcome) };
 
+    // The reading is looked at where it lies, and each record made where it is returned: it holds a list, and each copy of it shows.
     fn from(outcome: Result<Reading, Refused>) -> DeskReading {
-        match outcome {
-            Ok(reading) => {
-                let populations = reading.populations;
-                DeskReading {
-                    refusal: ACCEPTED,
-                    line: 0,
-                    method: u64::from(reading.method),
-                    house: reading.house,
-                    states: reading.states as u64,
-                    total: reading.total,
-                    populations,
-                }
+        let reading = match &outcome {
+            Ok(reading) => reading,
+            Err(refused) => {
+                return DeskReading {
+                    refusal: refused.refusal.number(),
+                    line: refused.line,
+                    method: u64::from(Method::Leximin),
+                    house: 0,
+                    states: 0,
+                    total: 0,
+                    populations: [0; STATE_LIMIT],
+                };
             }
-            Err(refused) => DeskReading {
-                refusal: refused.refusal.number(),
-                line: refused.line,
-                method: u64::from(Method::Leximin),
-                house: 0,
-                states: 0,
-                total: 0,
-                populations: [0; STATE_LIMIT],
-            },
+        };
+        let populations = reading.populations;
+        DeskReading {
+            refusal: ACCEPTED,
+            line: 0,
+            method: u64::from(reading.method),
+            house: reading.house,
+            states: reading.states as u64,
+            total: reading.total,
+            populations,
         }
     }
 }

@@ -9,10 +9,11 @@ pub fn place_of(s: &[u8], b: u8) -> usize
     s.iter().position(|x| *x == b).unwrap_or(s.len())
 }
 
-// The bytes past place `e`; none where that is the end. Lines and fields share it: the range written out at both would be no plainer.
+// The bytes past place `e`; none where that is the end. Lines and fields share it: the range written out at both would be no plainer. A
+// test and no minimum, so that after one whether a line is ended the compiler makes none.
 pub fn past(s: &[u8], e: usize) -> &[u8]
     requires { e ≤ length s.now }
     ensures { result.now ≡ drop (e + 1) s.now }
 {
-    &s[s.len().min(e + 1)..]
+    if e < s.len() { &s[e + 1..] } else { &s[e..] }
 }

@@ -46,7 +46,9 @@ fn says(named: Option<Method>, house: u64, states: u64) -> Result<Head, Refusal>
     })
 }
 
-// Reads line 1.
+// Reads line 1. It stays a function of its own: put into its caller it would stand before the loop over the states, whose inner loops the
+// compiler then lays out worse.
+#[inline(never)]
 pub fn read_head(s: &[u8]) -> Result<Head, Refusal>
     ensures { head_outcome result ≡ head_of s.now }
 {

@@ -110,10 +110,9 @@ impl Placing {
         }
     }
 
-    // Moves so many seats towards the house, fewer only if it is reached: 21 for a placing that opening and moves did not give, which comes
-    // back unaltered. Programs in this language move a placing so; `advance` is for whoever keeps one.
-    pub fn moved_on(self, seats: u64) -> MovedOn
-        ensures { result ≡ moved_of self seats }
+    // What a move by so many seats answers, and the placing that it leaves. The placing is lent, so that it is not copied only to be read.
+    fn later(&self, seats: u64) -> MovedOn
+        ensures { result ≡ moved_of self.now seats }
     {
         if !self.is_genuine() {
             return MovedOn {
@@ -121,7 +120,7 @@ impl Placing {
                     refusal: Refusal::PlacingForeign.number(),
                     moved: 0,
                 },
-                placing: self,
+                placing: *self,
             };
         }
         let states = self.states;
@@ -143,16 +142,24 @@ impl Placing {
                 total: total_later(self.total, self.house, moved),
                 steps: self.steps + moved,
                 seats: placed,
-                ..self
+                ..*self
             },
         }
+    }
+
+    // Moves so many seats towards the house, fewer only if it is reached: 21 for a placing that opening and moves did not give, which comes
+    // back unaltered. Programs in this language move a placing so; `advance` is for whoever keeps one.
+    pub fn moved_on(self, seats: u64) -> MovedOn
+        ensures { result ≡ moved_of self seats }
+    {
+        self.later(seats)
     }
 
     // The same move of a placing that stays with its owner and is lent for the call.
     pub fn advance(&mut self, seats: u64) -> Moved
         ensures { record { answer = result; placing = self.new } ≡ moved_of self.old seats }
     {
-        let on = (*self).moved_on(seats);
+        let on = self.later(seats);
         *self = on.placing;
         on.answer
     }

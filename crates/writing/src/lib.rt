@@ -7,6 +7,17 @@
 ghost use Rattle.std.specs.Prelude.{◌≡◌, ◌∷◌, [], ◌+◌, ◌<◌, ◌≤◌, length};
 ghost use Rattle.apportionment.specs.Text.{decimal, digit};
 
+// Copies bytes over as many others. It is a loop and not the library's `copy_from_slice`: here the compiler cannot tell that the two lie
+// apart, and would ask `memmove` of whoever links the archive for C.
+fn lay(part: &[u8], over: &mut [u8])
+    requires { length over.old ≡ length part.now }
+    ensures { over.new ≡ part.now }
+{
+    for (i, byte) in part.iter().enumerate() {
+        over[i] = *byte;
+    }
+}
+
 // A lent buffer that is filled from a place on.
 #[derive(Drop)]
 pub struct Page<'a> {
@@ -55,10 +66,10 @@ impl<'a> Page<'a> {
         let room = self.buffer.len() - self.place;
         if part.len() <= room {
             let next = self.place + part.len();
-            self.buffer[self.place..next].copy_from_slice(part);
+            lay(part, &mut self.buffer[self.place..next]);
             self.place = next;
         } else {
-            self.buffer[self.place..].copy_from_slice(&part[..room]);
+            lay(&part[..room], &mut self.buffer[self.place..]);
             self.place += room + 1;
         }
     }

@@ -10,7 +10,7 @@ use Rattle.cleaning.proofs.copy_by.Goals.{After-put_clean-size}
 
 -- The clean form stands at the front of the page.
 front_of_page : (g : _) (c : After-put_clean-size g)
-    → AtFront (clean_in (reading_outcome (Ok c.args.reading)) (name_in_row c.args.rows.now)) c.put_clean-size.new.out
+    → AtFront (clean_in (reading_outcome (Ok c.args.reading.now)) (name_in_row c.args.rows.now)) c.put_clean-size.new.out
     c.put_clean-size.result
 front_of_page g c = wrote_front c.put_clean-size.ensures (omega (arith, clean_has_room c.requires.cleanable.0))
 

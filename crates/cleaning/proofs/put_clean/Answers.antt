@@ -5,9 +5,6 @@ use Rattle.cleaning.specs.Clean.{stored_text, clean_in}
 use Rattle.cleaning.specs.inner.Room.{each_read, counted}
 use Rattle.cleaning.proofs.put_clean.Goals as goal
 
-pub slice_bounds-populations-end : goal.slice_bounds-populations-end
-slice_bounds-populations-end c = each_read c.requires.cleanable
-
 pub slice_bounds-put_states-end : goal.slice_bounds-put_states-end
 slice_bounds-put_states-end c = sym (length-take-le _ _ (each_read c.requires.cleanable))
 

@@ -18,7 +18,7 @@ returns-then-part-room c =
       same = refl;
       wrote =
           rw (
-            c.copy_from_slice.ensures.after,
+            c.lay.ensures,
             laid_copied page.buffer.now part page.place (page.place + length part - page.place) (omega arith) (omega arith),
           )
           (wrote_laid page.buffer.now page.place part (omega arith));
@@ -33,6 +33,6 @@ returns-else-part-room c =
     record {
       same = refl;
       wrote =
-          rw (c.copy_from_slice-else-part-room.ensures.after, laid_copied page.buffer.now _ page.place _ (sym cut) (omega arith), end)
+          rw (c.lay-else-part-room.ensures, laid_copied page.buffer.now _ page.place _ (sym cut) (omega arith), end)
           (wrote_cut page.buffer.now page.place part (omega arith) (omega arith));
     }

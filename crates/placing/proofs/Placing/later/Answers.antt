@@ -1,4 +1,4 @@
--- `Placing::moved_on` meets its contract: whether the placing is genuine picks the case of the definition; no more seats are moved than are
+-- `Placing::later` meets its contract: whether the placing is genuine picks the case of the definition; no more seats are moved than are
 -- left to the house, and what is left is the placing so many steps later, as `Moving` has it.
 use Rattle.std.proofs.Common.{◌≡◌, sym, ◌∙◌, ap, ℕ, ◌+◌, ◌≤◌, arith}
 use Rattle.std.proofs.lemmas.Bool.Decides.{nat_tests}
@@ -9,19 +9,19 @@ use Rattle.placing.specs.inner.Telling.{Genuine, genuine_facts, genuine_moved, f
 use Rattle.placing.specs.inner.Moving.{states_fit_lem, steps_fit, own_towards, later_placing}
 use Rattle.placing.specs.declared.Placing.{Placing}
 use Rattle.placing.specs.declared.MovedOn.{MovedOn}
-use Rattle.placing.proofs.Placing.moved_on.Goals as goal
-use Rattle.placing.proofs.Placing.moved_on.Goals.{After-min-moved, Else-not-is_genuine}
+use Rattle.placing.proofs.Placing.later.Goals as goal
+use Rattle.placing.proofs.Placing.later.Goals.{After-min-moved, Else-not-is_genuine}
 
 -- As many seats are moved as the definition says.
-moved_as_defined : (c : After-min-moved) → c.min-moved.result ≡ movable c.args.self c.args.seats
+moved_as_defined : (c : After-min-moved) → c.min-moved.result ≡ movable c.args.self.now c.args.seats
 unfolding movable distance
 moved_as_defined c = grind (arith, nat_tests)
 
-few_moved : (c : After-min-moved) → c.min-moved.result ≤ distance c.args.self.total c.args.self.house
+few_moved : (c : After-min-moved) → c.min-moved.result ≤ distance c.args.self.now.total c.args.self.now.house
 unfolding movable
 few_moved c = omega (arith, moved_as_defined c)
 
-genuine_here : (c : Else-not-is_genuine) → Genuine c.args.self
+genuine_here : (c : Else-not-is_genuine) → Genuine c.args.self.now
 genuine_here c = genuine_facts _ (sym c.is_genuine.ensures ∙ c.if-not-is_genuine.false)
 
 pub returns-then-not-is_genuine : goal.returns-then-not-is_genuine
@@ -51,7 +51,7 @@ unfolding movable people_of
 returns c =
     let at = goal.at.returns c in
     let genuine = genuine_here at.Else-not-is_genuine in
-    let p = c.args.self in
+    let p = c.args.self.now in
     let on : ℕ → Placing → MovedOn = λ moved placing. record { answer = record { refusal = accepted; moved = moved }; placing = placing } in
     ap (on _) (later_placing p genuine (few_moved at.After-min-moved) c.move_towards.ensures c.total_later.ensures)
     ∙ ap (λ (k : ℕ). on k (placing_at (people_of p) p.house (p.steps + k))) (moved_as_defined at.After-min-moved)
